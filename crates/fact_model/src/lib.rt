@@ -1,0 +1,2 @@
+//! Dated facts over any keys and values: definitions that the store and the machine share.
+#![tactic(auto)]

@@ -1,0 +1,30 @@
+-- Times of the hybrid clock and their order.
+use Rattle.std.specs.Prelude.{ℕ, ◌+◌, ◌^◌, ◌≤◌, ◌<◌, Bool, ◌||◌, ◌&&◌, ◌==◌, nat_lt, nat_le, Option, Some, None, if◌then◌else◌}
+
+-- a wall number in nanoseconds, and a counter
+pub record Time : Type 0 where
+  pub wall : ℕ
+  pub logical : ℕ
+
+abbrev pub time : ℕ → ℕ → Time
+time wall logical = record { wall = wall; logical = logical }
+
+-- the clock's first time
+abbrev pub zero_time : Time
+zero_time = time 0 0
+
+-- a wall of 64 bits, and a counter up to 2147483647
+abbrev pub IsTime : Time → Type 0
+IsTime t = (t.wall < 2 ^ 64) × (t.logical ≤ 2147483647)
+
+-- earlier: by wall, then by counter
+abbrev pub time_lt : Time → Time → Bool
+time_lt s t = nat_lt s.wall t.wall || (s.wall == t.wall && nat_lt s.logical t.logical)
+
+-- not later
+abbrev pub time_le : Time → Time → Bool
+time_le s t = nat_lt s.wall t.wall || (s.wall == t.wall && nat_le s.logical t.logical)
+
+-- the time that a clock draws next: its counter raised by one, unless that is at its end
+abbrev pub next : Time → Option Time
+next t = if nat_lt t.logical 2147483647 then Some (time t.wall (t.logical + 1)) else None

@@ -1,0 +1,14 @@
+//! Times of the hybrid clock, keys of versions, and the values that contracts see as lists.
+#![tactic(auto)]
+
+mod bytes;
+mod entries;
+mod items;
+mod time;
+mod time_text;
+
+pub use bytes::{Blob, Memory, Text};
+pub use entries::{Entry, EntryView};
+pub use items::Items;
+pub use time::Hlc;
+pub use time_text::{TimeFault, parse_time, put_time_text, times_are_exact};
