@@ -1,38 +1,260 @@
 //! Descriptors of tables.
-use crate::Name;
-use mvcc_keys::Memory;
+ghost use Rattle.std.specs.Prelude.{◌≡◌, ◌+◌, ◌<◌, ◌≤◌, Some, None, length, IfOk, IfErr, IfSome, OnOk, map, filter};
+ghost use Rattle.table_descriptors.specs.Descriptors.{numbered, place_of, id_of, key_ids, down_ids, new_schema, bad_schema, FaultOf, turned, has_id, kind_of, key_kind, key_kinds};
+
+use crate::columns::{Column, State};
+use crate::faults::SchemaFault;
+use crate::names::Name;
+use crate::rules::{broken_rule, repeats_id};
+use mvcc_keys::{Hlc, Memory};
 use row_codec::Kind;
+use std::alloc::Global;
+use std::marker::Model;
 
-/// Whether a table can be read and written.
-#[derive(Clone, Copy, Debug, PartialEq, Eq)]
-pub enum State {
-    Public,
-    Offline,
-    Dropped,
-}
-
-/// A column. Its id is kept for good, and is never given to another column of its table.
+/// A table as it is from its date on.
 #[derive(Debug, Drop)]
-pub struct Column {
-    pub id: u32,
-    pub name: Name,
-    pub kind: Kind,
+pub struct Descriptor {
+    id: u32,
+    version: u32,
+    database: Name,
+    name: Name,
+    state: State,
+    columns: Vec<Column>,
+    key_columns: Vec<u32>,
+    references: Vec<u32>,
+    next_column: u32,
+    modified: Hlc,
+    down: Vec<u32>,
 }
 
-/// Why no descriptor is made: the least number of a rule that is broken.
-#[derive(Clone, Copy, Debug, PartialEq, Eq)]
-pub enum SchemaFault {
-    BadSchema { which: u8 },
-    Memory,
+impl Model for Descriptor {
+    ghost use Rattle.table_descriptors.specs.Descriptors.{Schema};
+
+    ghost Value = { Schema };
+
+    ghost use Rattle.table_descriptors.specs.DescriptorView.{view_of};
+
+    ghost view = { view_of };
 }
 
-impl From<Memory> for SchemaFault {
-    ghost use Rattle.std.specs.Prelude.{◌≡◌};
-    ghost use Rattle.table_descriptors.specs.declared.descriptors.SchemaFault.TheVariants.{Memory as no_memory};
+/// The columns of a new table, with ids from 1 on.
+fn numbered(alloc: Global, columns: &[(Name, Kind)]) -> Result<Vec<Column>, Memory>
+    requires { length columns.now ≤ 64 }
+    ensures { IfOk result (λ v. v.items ≡ numbered 1 columns.now) }
+{
+    let mut made = Vec::new(alloc);
+    let mut id: u32 = 1;
+    for column in columns {
+        let name = column.0.copy(alloc)?;
+        let kind = column.1;
+        made.push(Column { id, name, kind })?;
+        id += 1;
+    }
+    Ok(made)
+}
 
-    ghost from_gives = { λ _ e. e ≡ no_memory };
+fn place_of(columns: &[(Name, Kind)], name: &Name) -> Option<usize>
+    ensures place { result ≡ place_of columns.now name.now }
+    ensures within { IfSome result (λ i. i < length columns.now) }
+{
+    columns.iter().position(|(column, _)| column.is_same(name))
+}
 
-    fn from(_refused: Memory) -> SchemaFault {
-        SchemaFault::Memory
+/// The id of the first column of that name in a new table, 0 where there is none.
+fn id_of(columns: &[(Name, Kind)], name: &Name) -> u32
+    requires { length columns.now ≤ 64 }
+    ensures { result ≡ id_of columns.now name.now }
+{
+    match place_of(columns, name) {
+        Some(place) => place as u32 + 1,
+        None => 0,
+    }
+}
+
+fn key_ids(
+    alloc: Global,
+    columns: &[(Name, Kind)],
+    key: &[(Name, bool)],
+) -> Result<Vec<u32>, Memory>
+    requires { length columns.now ≤ 64 }
+    ensures { IfOk result (λ v. v.items ≡ key_ids columns.now key.now) }
+{
+    let ids = key.iter().map(|(name, _)| id_of(columns, name));
+    Ok(ids.collect(alloc)?)
+}
+
+/// The ids of the key columns that descend, in key order.
+fn down_ids(
+    alloc: Global,
+    columns: &[(Name, Kind)],
+    key: &[(Name, bool)],
+) -> Result<Vec<u32>, Memory>
+    requires { length columns.now ≤ 64 }
+    ensures { IfOk result (λ v. v.items ≡ down_ids columns.now key.now) }
+{
+    let down = key.iter().filter(|(_, is_down)| *is_down);
+    Ok(down.map(|(name, _)| id_of(columns, name)).collect(alloc)?)
+}
+
+fn turned(kind: Kind) -> Kind
+    ensures { result ≡ turned kind }
+{
+    match kind {
+        Kind::Int | Kind::IntDown => Kind::IntDown,
+        Kind::Text | Kind::TextDown => Kind::TextDown,
+        Kind::Bytes | Kind::BytesDown => Kind::BytesDown,
+        Kind::Bool | Kind::BoolDown => Kind::BoolDown,
+    }
+}
+
+fn kind_of(columns: &[Column], id: u32) -> Kind
+    ensures { result ≡ kind_of columns.now id }
+{
+    match columns.iter().find(|column| column.id == id) {
+        Some(column) => column.kind,
+        None => Kind::Int,
+    }
+}
+
+/// The first descriptor of a table that breaks no rule.
+#[tactic(auto, unfolding(crate::specs::Descriptors::new_schema))]
+fn first_descriptor(
+    alloc: Global,
+    id: u32,
+    database: &Name,
+    name: &Name,
+    columns: &[(Name, Kind)],
+    key: &[(Name, bool)],
+    references: &[u32],
+    at: Hlc,
+) -> Result<Descriptor, Memory>
+    requires { length columns.now ≤ 64 }
+    ensures { IfOk result (λ d. d ≡ new_schema id database.now name.now columns.now key.now references.now at) }
+{
+    Ok(Descriptor {
+        id,
+        version: 1,
+        database: database.copy(alloc)?,
+        name: name.copy(alloc)?,
+        state: State::Public,
+        columns: numbered(alloc, columns)?,
+        key_columns: key_ids(alloc, columns, key)?,
+        references: Vec::from_slice(alloc, references)?,
+        next_column: columns.len() as u32 + 1,
+        modified: at,
+        down: down_ids(alloc, columns, key)?,
+    })
+}
+
+impl Descriptor {
+    /// The first descriptor of a new table, Public and of version 1. A name of the key comes with
+    /// whether its column descends.
+    pub fn create(
+        alloc: Global,
+        id: u32,
+        database: &Name,
+        name: &Name,
+        columns: &[(Name, Kind)],
+        key: &[(Name, bool)],
+        references: &[u32],
+        at: Hlc,
+    ) -> Result<Descriptor, SchemaFault>
+        ensures made { IfOk result (λ d. d ≡ new_schema id database.now name.now columns.now key.now references.now at) }
+        ensures allowed { OnOk result (bad_schema columns.now key.now references.now ≡ None) }
+        ensures fault { IfErr result (λ e. FaultOf e (bad_schema columns.now key.now references.now)) }
+    {
+        if let Some(which) = broken_rule(columns, key, repeats_id(references)) {
+            return Err(SchemaFault::BadSchema { which });
+        }
+        Ok(first_descriptor(alloc, id, database, name, columns, key, references, at)?)
+    }
+
+    pub fn id(&self) -> u32
+        ensures { result ≡ self.now.id }
+    {
+        self.id
+    }
+
+    pub fn version(&self) -> u32
+        ensures { result ≡ self.now.version }
+    {
+        self.version
+    }
+
+    pub fn database(&self) -> &Name
+        ensures { result.now ≡ self.now.database }
+    {
+        &self.database
+    }
+
+    pub fn name(&self) -> &Name
+        ensures { result.now ≡ self.now.name }
+    {
+        &self.name
+    }
+
+    pub fn state(&self) -> State
+        ensures { result ≡ self.now.state }
+    {
+        self.state
+    }
+
+    pub fn columns(&self) -> &[Column]
+        ensures { result.now ≡ self.now.columns }
+    {
+        self.columns.as_slice()
+    }
+
+    /// The ids of the key columns, in key order.
+    pub fn key_columns(&self) -> &[u32]
+        ensures { result.now ≡ self.now.key_columns }
+    {
+        self.key_columns.as_slice()
+    }
+
+    pub fn references(&self) -> &[u32]
+        ensures { result.now ≡ self.now.references }
+    {
+        self.references.as_slice()
+    }
+
+    /// The id that the next added column takes.
+    pub fn next_column(&self) -> u32
+        ensures { result ≡ self.now.next_column }
+    {
+        self.next_column
+    }
+
+    /// The date from which on the table is as described here.
+    pub fn modified(&self) -> Hlc
+        ensures { result ≡ self.now.modified }
+    {
+        self.modified
+    }
+
+    /// The ids of the descending key columns, in key order.
+    pub fn down(&self) -> &[u32]
+        ensures { result.now ≡ self.now.down }
+    {
+        self.down.as_slice()
+    }
+
+    fn key_kind(&self, id: u32) -> Kind
+        ensures { result ≡ key_kind self.now id }
+    {
+        let kind = kind_of(self.columns.as_slice(), id);
+        if self.down.contains(&id) {
+            turned(kind)
+        } else {
+            kind
+        }
+    }
+
+    /// The kinds of the key columns in order, with their directions.
+    pub fn key_kinds(&self, alloc: Global) -> Result<Vec<Kind>, Memory>
+        ensures { IfOk result (λ v. v.items ≡ key_kinds self.now) }
+    {
+        let ids = self.key_columns.as_slice();
+        Ok(ids.iter().map(|id| self.key_kind(*id)).collect(alloc)?)
     }
 }

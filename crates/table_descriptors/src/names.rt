@@ -1,11 +1,12 @@
 //! Names of databases, tables, columns, clusters and collections.
-ghost use Rattle.std.specs.Prelude.{◌≡◌, true, IfOk};
+ghost use Rattle.std.specs.Prelude.{◌≡◌, true, IfOk, Some};
 ghost use Rattle.std.specs.List.{list_all};
 ghost use Rattle.std.specs.Str.{bytes_eq};
 ghost use Rattle.table_descriptors.specs.Names.{is_name_start, is_name_byte, is_name_text, is_name, name_of};
 
 use mvcc_keys::Memory;
 use std::alloc::Global;
+use std::fmt;
 use std::marker::Model;
 
 /// From 1 to 32 bytes: a lower-case letter or `_`, then those and digits.
@@ -101,5 +102,13 @@ impl Name {
         ensures { result ≡ bytes_eq self.now other.now }
     {
         self.text.as_bytes() == other.text.as_bytes()
+    }
+}
+
+impl fmt::Display for Name {
+    ghost output = { λ n. Some n };
+
+    fn fmt<W: fmt::Write>(&self, f: &mut fmt::Formatter<W>) -> fmt::Result {
+        f.write_str(self.text.as_str())
     }
 }

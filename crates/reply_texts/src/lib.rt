@@ -1,0 +1,11 @@
+//! What commands are answered, and the text of each answer.
+#![tactic(auto)]
+
+mod answers;
+mod refusals;
+mod replies;
+mod rows;
+
+pub use answers::{Answer, put_answer};
+pub use refusals::{Refusal, put_refusal};
+pub use replies::{Reply, Response};

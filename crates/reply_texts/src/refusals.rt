@@ -1,0 +1,72 @@
+//! What a command is refused by, and its line.
+ghost use Rattle.std.specs.Prelude.{◌≡◌, ◌++◌, IfOk, OnErr, OnOk, string_bytes};
+ghost use Rattle.reply_texts.specs.Texts.{refusal_text};
+
+use mvcc_keys::{Hlc, Memory};
+use std::alloc::{AllocError, Global};
+use table_descriptors::Name;
+
+/// What a command is refused by, with its fields. A refused command leaves all as it was.
+#[derive(Drop)]
+pub enum Refusal {
+    /// The clock's counter can't rise as often as the command draws.
+    ClockFull,
+    TickBack { now: Hlc },
+    NoSuchDatabase { database: Name },
+    DatabaseExists { database: Name },
+    NoSuchTable { table: (Name, Name) },
+    NameTaken { table: (Name, Name) },
+    /// The least number of a rule that the new table breaks.
+    BadSchema { which: u8 },
+    /// Row and place of the first value that doesn't fit, from 1; column 0: a wrong count of values.
+    WrongRow { row: u32, column: u32 },
+    Future { now: Hlc },
+    /// The row, from 1, whose key came earlier in the list.
+    DuplicateKey { row: u32 },
+    TooManyTables,
+    TooManyEvents,
+    /// What isn't built yet: a row with more than 1,024 bytes of texts and bytes.
+    NotBuilt,
+}
+
+fn refusal_line(alloc: Global, refusal: &Refusal) -> Result<String, AllocError>
+    ensures { IfOk result (λ s. string_bytes s ≡ refusal_text refusal.now) }
+{
+    match refusal {
+        Refusal::ClockFull => format!(in alloc; "refused 1 ClockFull\n"),
+        Refusal::TickBack { now } => format!(in alloc; "refused 2 TickBack now={now}\n"),
+        Refusal::NoSuchDatabase { database } => {
+            format!(in alloc; "refused 3 NoSuchDatabase database={database}\n")
+        }
+        Refusal::DatabaseExists { database } => {
+            format!(in alloc; "refused 4 DatabaseExists database={database}\n")
+        }
+        Refusal::NoSuchTable {
+            table: (database, name),
+        } => { format!(in alloc; "refused 5 NoSuchTable table={database}.{name}\n") }
+        Refusal::NameTaken {
+            table: (database, name),
+        } => { format!(in alloc; "refused 6 NameTaken table={database}.{name}\n") }
+        Refusal::BadSchema { which } => format!(in alloc; "refused 8 BadSchema which={which}\n"),
+        Refusal::WrongRow { row, column } => {
+            format!(in alloc; "refused 9 WrongRow row={row} column={column}\n")
+        }
+        Refusal::Future { now } => format!(in alloc; "refused 11 Future now={now}\n"),
+        Refusal::DuplicateKey { row } => format!(in alloc; "refused 15 DuplicateKey row={row}\n"),
+        Refusal::TooManyTables => format!(in alloc; "refused 35 TooManyTables\n"),
+        Refusal::TooManyEvents => format!(in alloc; "refused 36 TooManyEvents\n"),
+        Refusal::NotBuilt => format!(in alloc; "refused 39 NotBuilt\n"),
+    }
+}
+
+/// Appends the line of a refusal.
+pub fn put_refusal(refusal: &Refusal, out: &mut Vec<u8>) -> Result<(), Memory>
+    ensures appended { OnOk result (out.new.items ≡ out.old.items ++ refusal_text refusal.now) }
+    ensures kept { OnErr result (out.new.items ≡ out.old.items) }
+{
+    let alloc = *out.allocator();
+    let Ok(line) = refusal_line(alloc, refusal) else {
+        return Err(Memory);
+    };
+    out.extend_from_slice(line.as_bytes()).map_err(|_| Memory)
+}
