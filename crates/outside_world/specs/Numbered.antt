@@ -1,0 +1,11 @@
+-- Calls that fail by their number. The memory source, sink and disk cite this.
+use Rattle.std.specs.Prelude.{ℕ, ◌+◌, ◌-◌, ◌^◌, min, Bool, nat_eq, List}
+use Rattle.std.specs.List.{list_any}
+
+-- the number of the call after this many: the first is 1, and the numbers end where 64 bits do
+abbrev pub next_call : ℕ → ℕ
+next_call calls = min (calls + 1) (2 ^ 64 - 1)
+
+-- the call is one of those that fail
+abbrev pub fails_at : List ℕ → ℕ → Bool
+fails_at fails call = list_any (λ n. nat_eq n call) fails

@@ -1,0 +1,16 @@
+//! The outside: what a run reads from, writes to and keeps its objects on.
+#![tactic(auto)]
+
+mod memory;
+mod next_bytes;
+mod standard;
+mod sure;
+mod traits;
+
+pub use memory::{MemorySink, MemorySource};
+pub use standard::{StdSink, StdSource};
+pub use sure::{SureSink, SureSource, sure_streams_never_fail};
+pub use traits::{Failed, Sink, Source};
+
+#[cfg(test)]
+mod tests;
