@@ -3,8 +3,8 @@ use Rattle.std.specs.Prelude.{◌≡◌, ℕ, Bool, true, false, List, codes, Op
 use Rattle.mvcc_keys.specs.Times.{Time}
 use Rattle.row_codec.specs.declared.rows.Datum.{Datum}
 use Rattle.row_codec.specs.declared.rows.Kind.{Kind}
-use Rattle.script_grammar.specs.Grammar.{Form, ◌>>=◌, ◌>>◌, give, one, word, mark, is_mark, repeated, listed, ending, ◌making◌, ◌or◌}
-use Rattle.script_grammar.specs.Parts.{name, count_of, table, row, asof, columns, key, reference}
+use Rattle.script_grammar.specs.Grammar.{Form, ◌>>=◌, ◌>>◌, one, word, mark, ending, ◌making◌, ◌or◌}
+use Rattle.script_grammar.specs.Parts.{name, count_of, table, rows, asof, columns, key, references}
 use Rattle.command_lang.specs.declared.command.Command.{Command}
 use Rattle.command_lang.specs.declared.command.Command.TheVariants.{Cluster, Tick, CreateDatabase, CreateTable, Upsert, Select}
 
@@ -43,7 +43,7 @@ create_table = do
   mark 40
   cs ← columns
   ks ← key
-  rs ← repeated (is_mark 44) reference
+  rs ← references
   mark 41
   ending (t, cs, ks, rs)
 
@@ -56,8 +56,8 @@ upsert = do
   word (codes "into")
   t ← table
   word (codes "values")
-  rows ← listed row
-  ending (t, rows)
+  rs ← rows
+  ending (t, rs)
 
 -- SELECT * FROM tbl [AS OF SYSTEM TIME time]
 unfoldable pub select : Form ((List ℕ × List ℕ) × Option Time)

@@ -183,3 +183,10 @@ reference = do
   mark 44
   word (codes "references")
   table
+
+abbrev pub references : Form (List (List ℕ × List ℕ))
+references = repeated (is_mark 44) reference
+
+-- row {, row}
+abbrev pub rows : Form (List (List Datum))
+rows = listed row

@@ -31,8 +31,12 @@ is_mark_byte b = b == 40 || (b == 41 || (b == 44 || (b == 46 || (b == 59 || (b =
 abbrev pub is_hex_digit : ℕ → Bool
 is_hex_digit b = is_digit b || ((nat_le 97 b && nat_le b 102) || (nat_le 65 b && nat_le b 70))
 
+-- the value of a hexadecimal digit, and 0 of any other byte
 abbrev pub hex_value : ℕ → ℕ
-hex_value b = if nat_le b 57 then b - 48 else (if nat_le b 70 then b - 55 else b - 87)
+hex_value b =
+    if is_digit b then b - 48
+    else (if nat_le 97 b && nat_le b 102 then b - 87
+    else (if nat_le 65 b && nat_le b 70 then b - 55 else 0))
 
 abbrev pub begins_with_quote : List ℕ → Bool
 begins_with_quote [] = false
@@ -89,10 +93,17 @@ text_body (b ∷ c ∷ bs) =
     then (if c == 39 then option_map (λ x. (39 ∷ x.0, 2 + x.1)) (text_body bs) else Some ([], 1))
     else option_map (λ x. (b ∷ x.0, 1 + x.1)) (text_body (c ∷ bs))
 
+abbrev pub utf8_text : List ℕ → Option (List ℕ)
+utf8_text bs = if is_utf8 bs then Some bs else None
+
+abbrev pub utf8_cut : Option (List ℕ) → ℕ → Cut
+utf8_cut None len = cut Bad 1
+utf8_cut (Some bs) len = cut (Text bs) (1 + len)
+
 -- a text is UTF-8 and has its end
 abbrev pub text_cut : Option (List ℕ × ℕ) → Cut
 text_cut None = cut Bad 1
-text_cut (Some x) = if is_utf8 x.0 then cut (Text x.0) (1 + x.1) else cut Bad 1
+text_cut (Some x) = utf8_cut (utf8_text x.0) x.1
 
 -- the bytes that pairs of hexadecimal digits write
 unfoldable pub hex_bytes : List ℕ → List ℕ

@@ -2,7 +2,14 @@
 #![tactic(auto)]
 
 mod broken;
+mod forms;
+mod lexer;
+mod parts;
+mod quoted;
 mod token;
 
 pub use broken::Broken;
+pub use forms::{Item, Part, begins_with_word, ending, farthest, is_mark, listed, mark, repeated, with_first, word};
+pub use lexer::{is_blank, tokens};
+pub use parts::{asof, column, columns, count, key, kind, name, new_name, references, row, rows, table, time};
 pub use token::Token;
