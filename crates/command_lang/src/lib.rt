@@ -3,8 +3,11 @@
 
 mod command;
 mod faults;
+mod forms;
+mod laws;
 mod reading;
 
 pub use command::{Command, Tbl};
 pub use faults::LineFault;
+pub use laws::{forms_are_exact, readings_are_exact};
 pub use reading::parse_line;

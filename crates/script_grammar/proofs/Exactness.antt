@@ -1,8 +1,8 @@
 -- Forms that are read exactly as they are defined.
 use Rattle.std.proofs.Common.{◌≡◌, ℕ, zero, suc, ◌+◌, ◌-◌, ◌<◌, ◌≤◌, Bool, true, false, List, [], ◌∷◌, ◌++◌, length, Option, Some, None, refl, sym, ap, ◌∙◌, arith, append_assoc, length-append, min, rules, ◌⊎◌, inl, inr, if◌then◌else◌}
 use Rattle.script_grammar.specs.declared.token.Token.{Token}
-use Rattle.script_grammar.specs.Grammar.{Form, Progress, Read, Fault, read_within, begins_with, and_read, give, one, repeated, either, ◌or◌, farthest, ◌>>=◌, SpellsOne, taken, Repeats}
-use Rattle.script_grammar.specs.Grammar.{is_mark, ending, read_ending, EndsLine}
+use Rattle.script_grammar.specs.declared.token.Token.TheVariants.{Word, Mark}
+use Rattle.script_grammar.specs.Grammar.{Form, Progress, Read, Fault, read_within, begins_with, and_read, give, one, fits, word, is_word, mark, is_mark, repeated, listed, either, ending, read_ending, EndsLine, ◌making◌, read_making, ◌or◌, farthest, ◌>>=◌, ◌>>◌, SpellsOne, taken, Repeats}
 use Rattle.script_grammar.specs.Columns.{Lists, Begins, Stops, Breaks, Explains}
 
 -- ---- languages
@@ -349,6 +349,50 @@ either_then {A = A} {B = B} starts f g wants n k left right refuses (t ∷ ts) s
         (λ vs b l. elim l.2 [ inl s ↦ absurd (apart (starts t) miss (wants (t ∷ vs) l.0 l.1 s)) | inr s ↦ (l.0, l.1, s, l.3) ])
         (right (t ∷ ts) short)
 
+-- ---- a list with commas
+
+pub word_part : (w : List ℕ) → fits (is_word w) (Word w) ≡ Some tt → IsPart (word w)
+word_part w is = one_part (fits (is_word w)) (Word w) tt is
+
+pub mark_part : (m : ℕ) → fits (is_mark m) (Mark m) ≡ Some tt → IsPart (mark m)
+mark_part m is = one_part (fits (is_mark m)) (Mark m) tt is
+
+pub fits_test : (test : Token → Bool) (t : Token) (a : Unit {0}) → fits test t ≡ Some a → test t ≡ true
+fits_test test t a = go (test t)
+  where
+    go : (x : Bool) → (if x then Some tt else None) ≡ Some a → x ≡ true
+    go true e = refl
+    go false e = cc
+
+pub refuses_assoc : {A B C : Type 0} (stop : Token → Bool) (f : Form A) (h : A → Form B) (g : B → Form C) → Refuses stop (f >>= (λ a. h a >>= g)) → Refuses stop ((f >>= h) >>= g)
+refuses_assoc stop f h g refuses t ts c rest hit l = refuses t ts c rest hit (l.2.0, l.2.1, l.2.2, (l.0, l.1, l.2.3, l.3))
+
+-- what follows begins with no comma, and with nothing that the items may not stand before
+pub listed_upto : {A B : Type 0} (stop : Token → Bool) (f : Form A) (k : List A → Form B) (n : ℕ) → IsPartBefore stop f → ((t : Token) → stop t ≡ true → is_mark 44 t ≡ false)
+  → ((xs : List A) → ReadsUpTo n (k xs)) → ((xs : List A) → Refuses (is_mark 44) (k xs)) → ((xs : List A) → Refuses stop (k xs))
+  → ReadsUpTo n (listed f >>= k)
+listed_upto {A = A} {B = B} stop f k n part other right commas stops =
+    upto_assoc f tail k n (λ ts short. part B n (λ x. tail x >>= k) whole barred ts (omega (arith, short)))
+  where
+    more : Form (List A)
+    more = repeated (is_mark 44) (mark 44 >> f)
+    tail : A → Form (List A)
+    tail x = more >>= (λ xs. give (x ∷ xs))
+    next : IsPartBefore stop (mark 44 >> f)
+    next = part_before_then stop (mark 44) (λ _. f) (mark_part 44 refl) (λ C m g reads refuses _ ts short. part C m g reads refuses ts (omega (arith, short)))
+    opens : Wants (is_mark 44) (mark 44 >> f)
+    opens = wants_one (is_mark 44) (fits (is_mark 44)) (λ _. f) (fits_test (is_mark 44))
+    whole : (x : A) → ReadsUpTo n (tail x >>= k)
+    whole x = upto_assoc more (λ xs. give (x ∷ xs)) k n (repeat_before (is_mark 44) stop (mark 44 >> f) next opens other n (λ xs. give (x ∷ xs) >>= k)
+        (λ xs. give_then (x ∷ xs) k n (right (x ∷ xs))) (λ xs. refuses_give (is_mark 44) (x ∷ xs) k (commas (x ∷ xs))) (λ xs. refuses_give stop (x ∷ xs) k (stops (x ∷ xs))))
+    barred : (x : A) → Refuses stop (tail x >>= k)
+    barred x = refuses_assoc stop more (λ xs. give (x ∷ xs)) k (refuses_repeated stop (is_mark 44) (mark 44 >> f) (λ xs. give (x ∷ xs) >>= k) opens other (λ xs. refuses_give stop (x ∷ xs) k (stops (x ∷ xs))))
+
+pub listed_rest : {A B : Type 0} (stop : Token → Bool) (f : Form A) (h : List A → Form B) → IsPartBefore stop f → ((t : Token) → stop t ≡ true → is_mark 44 t ≡ false)
+  → ((xs : List A) → IsRest (h xs)) → ((xs : List A) → Refuses (is_mark 44) (h xs)) → ((xs : List A) → Refuses stop (h xs)) → IsRest (listed f >>= h)
+listed_rest stop f h part other rest commas stops C n g right =
+    upto_assoc (listed f) h g n (listed_upto stop f (λ xs. h xs >>= g) n part other (λ xs. rest xs C n g right) (λ xs. refuses_then (is_mark 44) (h xs) g (commas xs)) (λ xs. refuses_then stop (h xs) g (stops xs)))
+
 -- ---- the end
 
 pub ending_right : {A : Type 0} (a : A) (n : ℕ) → ReadsUpTo n (ending a)
@@ -369,6 +413,27 @@ ending_right a n (t ∷ u ∷ ts) short = go (is_mark 59 t) refl
     go : (x : Bool) → is_mark 59 t ≡ x → Explains (Lists (ending a)) (t ∷ u ∷ ts) (if x then Fault (suc (length ts)) else Fault (suc (suc (length ts))))
     go true hit = record { before = t ∷ []; after = u ∷ ts; split = refl; left_is = refl; begins = ([], a, (refl, refl, hit)); stops = λ b. b.2.2 }
     go false miss = record { before = []; after = t ∷ u ∷ ts; split = refl; left_is = refl; begins = ([], a, (refl, refl, tt)); stops = λ b. none b.0 miss b.2.2 }
+
+-- ---- what is made of a form
+
+making_exact : {A B : Type 0} (L : List Token → A → Type 0) (make : A → B) (ts : List Token) (p : Progress A)
+  → Explains L ts p → Explains (λ us b. (a : A) × L us a × (b ≡ make a)) ts (read_making p make)
+making_exact L make ts (Read a rest) e = (e.0, (a, e.1, refl), λ b l. l.2 ∙ ap make (e.2 l.0 l.1))
+making_exact {A = A} {B = B} L make ts (Fault left) e = record
+  { before = e.before
+  ; after = e.after
+  ; split = e.split
+  ; left_is = e.left_is
+  ; begins = (e.begins.0, make e.begins.1, (e.begins.1, e.begins.2, refl))
+  ; stops = stop e.after e.stops
+  }
+  where
+    stop : (after : List Token) → Stops L e.before after → Stops (λ us b. (a : A) × L us a × (b ≡ make a)) e.before after
+    stop [] s = λ b l. s l.0 l.1
+    stop (u ∷ after) s = λ b. s (b.0, b.2.0, b.2.1)
+
+pub making_upto : {A B : Type 0} (n : ℕ) (f : Form A) (make : A → B) → ReadsUpTo n f → ReadsUpTo n (f making make)
+making_upto n f make right ts short = making_exact (Lists f) make ts (f.read ts) (right ts short)
 
 -- ---- several forms
 

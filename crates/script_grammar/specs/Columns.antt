@@ -30,3 +30,7 @@ pub record Breaks {A : Type 0} (L : List Token → A → Type 0) (ts : List Toke
 abbrev pub Explains : {A : Type 0} → (List Token → A → Type 0) → List Token → Progress A → Type 0
 Explains {A = A} L ts (Read a rest) = (rest ≡ []) × L ts a × ((b : A) → L ts b → b ≡ a)
 Explains L ts (Fault left) = Breaks L ts left
+
+-- whatever the tokens are, what is read of them is what they say
+abbrev pub IsExact : {A : Type 0} → Form A → Type 0
+IsExact form = (ts : List Token) → Explains (Lists form) ts (form.read ts)

@@ -7,7 +7,8 @@ use Rattle.row_codec.specs.declared.rows.Datum.{Datum}
 use Rattle.row_codec.specs.declared.rows.Datum.TheVariants.{Int, Bool as Truth, Null, Text as TextDatum, Bytes as BytesDatum}
 use Rattle.row_codec.specs.declared.rows.Kind.{Kind}
 use Rattle.row_codec.specs.declared.rows.Kind.TheVariants.{Int as IntKind, Text as TextKind, Bytes as BytesKind, Bool as BoolKind}
-use Rattle.script_grammar.specs.Grammar.{Form, ◌>>=◌, ◌>>◌, give, one, word, mark, is_word, is_mark, repeated, listed, either, maybe_one}
+use Rattle.script_grammar.specs.Grammar.{Form, ◌>>=◌, ◌>>◌, give, one, word, mark, is_word, is_mark, repeated, listed, either, maybe_one, ending, ◌making◌, ◌or◌}
+use Rattle.script_grammar.specs.Columns.{IsExact}
 use Rattle.script_grammar.specs.declared.token.Token.{Token}
 use Rattle.script_grammar.specs.declared.token.Token.TheVariants.{Word, Number, Text, Bytes, Mark, Bad}
 
@@ -190,3 +191,28 @@ references = repeated (is_mark 44) reference
 -- row {, row}
 abbrev pub rows : Form (List (List Datum))
 rows = listed row
+
+-- ---- the law of parts
+
+-- lines of one part alone, and those of the columns, the key and the references of a table
+abbrev pub columns_alone : Form (List (List ℕ × Kind) × List (List ℕ × Bool) × List (List ℕ × List ℕ))
+columns_alone = do
+  cs ← columns
+  ks ← key
+  rs ← references
+  ending (cs, ks, rs)
+
+-- one of two forms with unlike first words
+abbrev pub choice_alone : Form (List ℕ × List ℕ)
+choice_alone = (word (codes "key") >> (table >>= (λ t. ending t))) or (word (codes "references") >> (table >>= (λ t. ending t))) making (λ t. t)
+
+-- they are read exactly as they are spelled
+pub record PartsAreExact : Type 0 where
+  pub a_name : IsExact (name >>= (λ n. ending n))
+  pub a_count : IsExact (one count_of >>= (λ n. ending n))
+  pub a_table : IsExact (table >>= (λ t. ending t))
+  pub some_rows : IsExact (rows >>= (λ rs. ending rs))
+  pub a_past_time : IsExact (asof >>= (λ t. ending t))
+  pub a_column : IsExact (column >>= (λ c. ending c))
+  pub some_columns : IsExact columns_alone
+  pub a_choice : IsExact choice_alone

@@ -1,5 +1,5 @@
 //! From the bytes of a line to its tokens.
-ghost use Rattle.std.specs.Prelude.{◌≡◌, ◌<◌, ◌≤◌, ◌-◌, ◌+◌, ◌^◌, length, drop, map, slice_index, IfOk, IfSome, IfNone, OnOk, ◌++◌, ◌∷◌, []};
+ghost use Rattle.std.specs.Prelude.{◌≡◌, ◌<◌, ◌≤◌, ◌-◌, ◌+◌, length, drop, map, slice_index, IfOk, IfSome, IfNone, OnOk, ◌++◌, ◌∷◌, []};
 ghost use Rattle.std.specs.Char.{to_ascii_lowercase};
 ghost use Rattle.std.specs.List.{take_while};
 ghost use Rattle.script_grammar.specs.Tokens.{is_blank, is_digit, is_word_start, is_word_byte, is_mark_byte, word_token, number_token, number_from, negative_cut, first_token, cut, is_bad, tokens, places};
@@ -183,7 +183,6 @@ fn is_bad(token: &Token) -> bool
 
 /// The tokens of a line, and the place of the first byte of each, counted from 1.
 pub fn tokens(alloc: Global, line: &[u8]) -> Result<(Vec<Token>, Vec<usize>), Memory>
-    requires { length line.now < 2 ^ 63 }
     ensures { IfOk result (λ x. (x.0.items ≡ tokens line.now) × (x.1.items ≡ places line.now)) }
 {
     let mut found = Vec::new(alloc);

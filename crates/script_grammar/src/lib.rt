@@ -3,6 +3,7 @@
 
 mod broken;
 mod forms;
+mod laws;
 mod lexer;
 mod parts;
 mod quoted;
@@ -10,6 +11,7 @@ mod token;
 
 pub use broken::Broken;
 pub use forms::{Item, Part, begins_with_word, ending, farthest, is_mark, listed, mark, repeated, with_first, word};
+pub use laws::parts_are_exact;
 pub use lexer::{is_blank, tokens};
 pub use parts::{asof, column, columns, count, key, kind, name, new_name, references, row, rows, table, time};
 pub use token::Token;
