@@ -1,6 +1,7 @@
 //! The forms of commands, and the commands that they make.
 ghost use Rattle.std.specs.Prelude.{◌≡◌, []};
-ghost use Rattle.script_grammar.specs.Grammar.{Gives};
+ghost use Rattle.script_grammar.specs.Grammar.{Gives, ◌making◌};
+ghost use Rattle.command_lang.specs.declared.command.Command.TheVariants.{Cluster, Tick, CreateDatabase, CreateTable, Upsert, Select};
 ghost use Rattle.command_lang.specs.Forms.{cluster, tick, create_database, create_table, upsert, select, schema_command, row_command, command};
 
 use crate::{Command, Tbl};
@@ -82,22 +83,60 @@ fn select(alloc: Global, tokens: &[Token]) -> Result<(Tbl, Option<Hlc>), Broken>
     }
 }
 
+fn cluster_command(alloc: Global, tokens: &[Token]) -> Result<Command, Broken>
+    ensures { Gives (λ x. x) (λ x. []) result ((cluster making Cluster).read tokens.now) }
+{
+    let name = cluster(alloc, tokens)?;
+    Ok(Command::Cluster { name })
+}
+
+fn tick_command(tokens: &[Token]) -> Result<Command, Broken>
+    ensures { Gives (λ x. x) (λ x. []) result ((tick making Tick).read tokens.now) }
+{
+    let wall = tick(tokens)?;
+    Ok(Command::Tick { wall })
+}
+
+fn create_database_command(alloc: Global, tokens: &[Token]) -> Result<Command, Broken>
+    ensures { Gives (λ x. x) (λ x. []) result ((create_database making CreateDatabase).read tokens.now) }
+{
+    let name = create_database(alloc, tokens)?;
+    Ok(Command::CreateDatabase { name })
+}
+
+fn create_table_command(alloc: Global, tokens: &[Token]) -> Result<Command, Broken>
+    ensures { Gives (λ x. x) (λ x. []) result ((create_table making (λ x. CreateTable x.0 x.1 x.2 x.3)).read tokens.now) }
+{
+    let (table, columns, key, references) = create_table(alloc, tokens)?;
+    Ok(Command::CreateTable { table, columns, key, references })
+}
+
+fn upsert_command(alloc: Global, tokens: &[Token]) -> Result<Command, Broken>
+    ensures { Gives (λ x. x) (λ x. []) result ((upsert making (λ x. Upsert x.0 x.1)).read tokens.now) }
+{
+    let (table, rows) = upsert(alloc, tokens)?;
+    Ok(Command::Upsert { table, rows })
+}
+
+fn select_command(alloc: Global, tokens: &[Token]) -> Result<Command, Broken>
+    ensures { Gives (λ x. x) (λ x. []) result ((select making (λ x. Select x.0 x.1)).read tokens.now) }
+{
+    let (table, at) = select(alloc, tokens)?;
+    Ok(Command::Select { table, at })
+}
+
 #[tactic(auto, unfolding(crate::specs::Forms::schema_command))]
 fn schema_command(alloc: Global, tokens: &[Token]) -> Result<Command, Broken>
     ensures { Gives (λ x. x) (λ x. []) result (schema_command.read tokens.now) }
 {
-    let database = create_database(alloc, tokens).map(|name| Command::CreateDatabase { name });
-    let table = create_table(alloc, tokens).map(|(table, columns, key, references)| Command::CreateTable { table, columns, key, references });
-    farthest(database, table)
+    farthest(create_database_command(alloc, tokens), create_table_command(alloc, tokens))
 }
 
 #[tactic(auto, unfolding(crate::specs::Forms::row_command))]
 fn row_command(alloc: Global, tokens: &[Token]) -> Result<Command, Broken>
     ensures { Gives (λ x. x) (λ x. []) result (row_command.read tokens.now) }
 {
-    let upsert = upsert(alloc, tokens).map(|(table, rows)| Command::Upsert { table, rows });
-    let select = select(alloc, tokens).map(|(table, at)| Command::Select { table, at });
-    farthest(upsert, select)
+    farthest(upsert_command(alloc, tokens), select_command(alloc, tokens))
 }
 
 /// The command of a line. The first of a script names the cluster, and no other does.
@@ -106,9 +145,8 @@ pub(crate) fn command(alloc: Global, first: bool, tokens: &[Token]) -> Result<Co
     ensures { Gives (λ x. x) (λ x. []) result ((command first).read tokens.now) }
 {
     if first {
-        return cluster(alloc, tokens).map(|name| Command::Cluster { name });
+        return cluster_command(alloc, tokens);
     }
-    let tick = tick(tokens).map(|wall| Command::Tick { wall });
-    let found = farthest(tick, schema_command(alloc, tokens));
+    let found = farthest(tick_command(tokens), schema_command(alloc, tokens));
     farthest(found, row_command(alloc, tokens))
 }
