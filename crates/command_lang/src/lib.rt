@@ -11,3 +11,6 @@ pub use command::{Command, Tbl};
 pub use faults::LineFault;
 pub use laws::{forms_are_exact, readings_are_exact};
 pub use reading::parse_line;
+
+#[cfg(test)]
+mod tests;

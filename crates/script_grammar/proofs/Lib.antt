@@ -4,3 +4,4 @@ pub mod Lexing
 pub mod PartsExact
 pub mod Repeating
 pub mod Rights
+pub mod WordNames

@@ -130,7 +130,7 @@ pub fn repeated<P: Part>(alloc: Global, tokens: &[Token]) -> Result<(Vec<P::Valu
 }
 
 /// The items with one in front of them.
-pub fn with_first<T: Drop>(first: T, others: Vec<T>) -> Result<Vec<T>, Memory>
+pub(crate) fn with_first<T: Drop>(first: T, others: Vec<T>) -> Result<Vec<T>, Memory>
     ensures { IfOk result (λ v. v.items ≡ first ∷ others.items) }
 {
     let mut items = others;

@@ -10,8 +10,8 @@ mod quoted;
 mod token;
 
 pub use broken::Broken;
-pub use forms::{Item, Part, begins_with_word, ending, farthest, is_mark, listed, mark, repeated, with_first, word};
-pub use laws::parts_are_exact;
+pub use forms::{Item, Part, begins_with_word, ending, farthest, is_mark, listed, mark, repeated, word};
+pub use laws::{parts_are_exact, words_are_names};
 pub use lexer::{is_blank, tokens};
 pub use parts::{asof, column, columns, count, key, kind, name, new_name, references, row, rows, table, time};
 pub use token::Token;
