@@ -1,5 +1,5 @@
 -- Each form is read exactly as it is defined, and no tokens are in two of them.
-use Rattle.std.proofs.Common.{◌≡◌, Bool, true, false, List, [], ◌∷◌, codes, Option, Some, None, refl}
+use Rattle.std.proofs.Common.{Bool, true, false, List, [], ◌∷◌, codes, Some, refl}
 use Rattle.script_grammar.specs.Grammar.{one, ◌making◌, ◌or◌}
 use Rattle.script_grammar.specs.Columns.{IsExact}
 use Rattle.script_grammar.specs.Parts.{name, count_of, table, columns, starts_column}
@@ -27,8 +27,8 @@ create_table_right : IsRight create_table
 unfolding create_table
 create_table_right =
     word_ _ _ refl (word_ _ _ refl (then_ table _ table_part (λ t. mark_ _ _ refl (then_before_ starts_column columns _ columns_part
-        (λ cs. then_ _ _ key_part (λ ks. references_ _ (λ rs. mark_ _ _ refl (end_ _)) (λ rs. bars_mark_mark 44 41 _ refl)))
-        (λ cs. key_then_bars_column _)))))
+    (λ cs. then_ _ _ key_part (λ ks. references_ _ (λ rs. mark_ _ _ refl (end_ _)) (λ rs. bars_mark_mark 44 41 _ refl)))
+    (λ cs. key_then_bars_column _)))))
 
 upsert_right : IsRight upsert
 unfolding upsert

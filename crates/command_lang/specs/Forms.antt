@@ -1,5 +1,5 @@
 -- The forms of commands. Words in quotes stand there in any case, since tokens hold words in lower case.
-use Rattle.std.specs.Prelude.{◌≡◌, ℕ, Bool, true, false, List, codes, Option}
+use Rattle.std.specs.Prelude.{ℕ, Bool, true, false, List, codes, Option}
 use Rattle.mvcc_keys.specs.Times.{Time}
 use Rattle.row_codec.specs.declared.rows.Datum.{Datum}
 use Rattle.row_codec.specs.declared.rows.Kind.{Kind}

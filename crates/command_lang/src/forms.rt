@@ -7,7 +7,10 @@ ghost use Rattle.command_lang.specs.Forms.{cluster, tick, create_database, creat
 use crate::{Command, Tbl};
 use mvcc_keys::{Hlc, Items};
 use row_codec::{Kind, Row};
-use script_grammar::{Broken, Token, asof, columns, count, ending, farthest, key, mark, name, references, rows, table, word};
+use script_grammar::{
+    Broken, Token, asof, columns, count, ending, farthest, key, mark, name, references, rows,
+    table, word,
+};
 use std::alloc::Global;
 use table_descriptors::Name;
 
@@ -108,7 +111,12 @@ fn create_table_command(alloc: Global, tokens: &[Token]) -> Result<Command, Brok
     ensures { Gives (λ x. x) (λ x. []) result ((create_table making (λ x. CreateTable x.0 x.1 x.2 x.3)).read tokens.now) }
 {
     let (table, columns, key, references) = create_table(alloc, tokens)?;
-    Ok(Command::CreateTable { table, columns, key, references })
+    Ok(Command::CreateTable {
+        table,
+        columns,
+        key,
+        references,
+    })
 }
 
 fn upsert_command(alloc: Global, tokens: &[Token]) -> Result<Command, Broken>
@@ -129,7 +137,10 @@ fn select_command(alloc: Global, tokens: &[Token]) -> Result<Command, Broken>
 fn schema_command(alloc: Global, tokens: &[Token]) -> Result<Command, Broken>
     ensures { Gives (λ x. x) (λ x. []) result (schema_command.read tokens.now) }
 {
-    farthest(create_database_command(alloc, tokens), create_table_command(alloc, tokens))
+    farthest(
+        create_database_command(alloc, tokens),
+        create_table_command(alloc, tokens),
+    )
 }
 
 #[tactic(auto, unfolding(crate::specs::Forms::row_command))]

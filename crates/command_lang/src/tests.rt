@@ -5,7 +5,9 @@ use row_codec::{Datum, Kind};
 use std::alloc::Global;
 
 const COMMAND: usize = 0;
+
 const SKIPPED: usize = 99999;
+
 const NO_MEMORY: usize = 88888;
 
 /// The column at which a line is malformed.
@@ -93,10 +95,22 @@ fn lines_of_schemas(rt: HostRuntime) {
         (b"CREATE TABLE d.t (k INT, PRIMARY KEY (k))", COMMAND),
         (b"CREATE TABLE d.t (primary INT, PRIMARY KEY (k))", 19),
         (b"CREATE TABLE d.t (PRIMARY KEY (k))", 19),
-        (b"CREATE TABLE d.t (k INT, references INT, PRIMARY KEY (k))", 26),
-        (b"CREATE TABLE d.t (k INT, v STRING, b BYTES, f BOOL, PRIMARY KEY (k DESC, v ASC), REFERENCES d.u, REFERENCES d.w);", COMMAND),
-        (b"CREATE TABLE d.t (k INT, v STRING, PRIMARY KEY (k DESC DESC))", 56),
-        (b"CREATE TABLE d.t (k INT, v STRING, PRIMARY KEY (k ASC v))", 55),
+        (
+            b"CREATE TABLE d.t (k INT, references INT, PRIMARY KEY (k))",
+            26,
+        ),
+        (
+            b"CREATE TABLE d.t (k INT, v STRING, b BYTES, f BOOL, PRIMARY KEY (k DESC, v ASC), REFERENCES d.u, REFERENCES d.w);",
+            COMMAND,
+        ),
+        (
+            b"CREATE TABLE d.t (k INT, v STRING, PRIMARY KEY (k DESC DESC))",
+            56,
+        ),
+        (
+            b"CREATE TABLE d.t (k INT, v STRING, PRIMARY KEY (k ASC v))",
+            55,
+        ),
         (b"CREATE TABLE d.t (k INT, PRIMARY KEY (k), v INT)", 43),
         (b"CREATE TABLE d.t (k INT)", 24),
         (b"CREATE TABLE d.t (k INT PRIMARY KEY (k))", 25),
@@ -104,12 +118,24 @@ fn lines_of_schemas(rt: HostRuntime) {
         (b"CREATE TABLE d.t (k INT, PRIMARY INT", 34),
         (b"CREATE TABLE d.t (k INT, PRIMARY KEY ())", 39),
         (b"CREATE TABLE d.t (k INT, PRIMARY KEY (k,))", 41),
-        (b"CREATE TABLE d.t (k INT, PRIMARY KEY (desc DESC, asc))", COMMAND),
-        (b"CREATE TABLE d.t (k INT, PRIMARY KEY (primary, references))", COMMAND),
+        (
+            b"CREATE TABLE d.t (k INT, PRIMARY KEY (desc DESC, asc))",
+            COMMAND,
+        ),
+        (
+            b"CREATE TABLE d.t (k INT, PRIMARY KEY (primary, references))",
+            COMMAND,
+        ),
         (b"CREATE TABLE d.t (k INT, PRIMARY KEY (k", 40),
         (b"CREATE TABLE d.t (k INT, PRIMARY KEY (k)", 41),
-        (b"CREATE TABLE d.t (k INT, PRIMARY KEY (k), REFERENCES d)", 55),
-        (b"CREATE TABLE d.t (k INT, PRIMARY KEY (k), REFERENCES d.u, d.v)", 59),
+        (
+            b"CREATE TABLE d.t (k INT, PRIMARY KEY (k), REFERENCES d)",
+            55,
+        ),
+        (
+            b"CREATE TABLE d.t (k INT, PRIMARY KEY (k), REFERENCES d.u, d.v)",
+            59,
+        ),
         (b"CREATE TABLE d.t (k INT, PRIMARY KEY (k)) x", 43),
     ];
     for (line, wanted) in cases.iter() {
@@ -121,7 +147,10 @@ fn lines_of_schemas(rt: HostRuntime) {
 #[test]
 fn lines_of_rows(rt: HostRuntime) {
     let cases: [(&[u8], usize); 47] = [
-        (b"UPSERT INTO d.t VALUES (2, 'b'), (-1, 'it''s'), (NULL, true)", COMMAND),
+        (
+            b"UPSERT INTO d.t VALUES (2, 'b'), (-1, 'it''s'), (NULL, true)",
+            COMMAND,
+        ),
         (b"UPSERT INTO d.t VALUES (2, 'b'", 31),
         (b"UPSERT INTO d.t VALUES (2, 'b)", 28),
         (b"UPSERT INTO d.t VALUES (2, '\xff')", 28),
@@ -138,7 +167,10 @@ fn lines_of_rows(rt: HostRuntime) {
         (b"UPSERT INTO d.t VALUES (''''), ('')", COMMAND),
         (b"UPSERT INTO d.t VALUES (''')", 25),
         (b"UPSERT INTO d.t VALUES ('a'b')", 28),
-        (b"UPSERT INTO d.t VALUES (9223372036854775807, -9223372036854775808)", COMMAND),
+        (
+            b"UPSERT INTO d.t VALUES (9223372036854775807, -9223372036854775808)",
+            COMMAND,
+        ),
         (b"UPSERT INTO d.t VALUES (9223372036854775808)", 25),
         (b"UPSERT INTO d.t VALUES (-9223372036854775809)", 25),
         (b"UPSERT INTO d.t VALUES (- 5)", 25),
@@ -159,9 +191,18 @@ fn lines_of_rows(rt: HostRuntime) {
         (b"SELECT ** FROM d.t", 9),
         (b"SELECT * FROM d.t WHERE", 19),
         (b"SELECT * FROM d.t #", 19),
-        (b"SELECT * FROM d.t AS OF SYSTEM TIME '1.0000000000'", COMMAND),
-        (b"SELECT * FROM d.t AS OF SYSTEM TIME '18446744073709551615.2147483647';", COMMAND),
-        (b"SELECT * FROM d.t AS OF SYSTEM TIME '18446744073709551616.0000000000'", 37),
+        (
+            b"SELECT * FROM d.t AS OF SYSTEM TIME '1.0000000000'",
+            COMMAND,
+        ),
+        (
+            b"SELECT * FROM d.t AS OF SYSTEM TIME '18446744073709551615.2147483647';",
+            COMMAND,
+        ),
+        (
+            b"SELECT * FROM d.t AS OF SYSTEM TIME '18446744073709551616.0000000000'",
+            37,
+        ),
         (b"SELECT * FROM d.t AS OF SYSTEM TIME '1.2147483648'", 37),
         (b"SELECT * FROM d.t AS OF SYSTEM TIME '1.0'", 37),
         (b"SELECT * FROM d.t AS OF SYSTEM TIME 5", 37),
@@ -225,8 +266,19 @@ fn long_lines(rt: HostRuntime) {
 
 fn is_values(values: &[Datum]) -> bool {
     match values {
-        [Datum::Bytes(low), Datum::Bytes(none), Datum::Text(text), Datum::Int(least), Datum::Bool(truth), Datum::Null] => {
-            low.as_slice() == [0u8, 255].as_slice() && none.as_slice().is_empty() && text.as_str() == "it's 'Ä'" && *least == i64::MIN && *truth
+        [
+            Datum::Bytes(low),
+            Datum::Bytes(none),
+            Datum::Text(text),
+            Datum::Int(least),
+            Datum::Bool(truth),
+            Datum::Null,
+        ] => {
+            low.as_slice() == [0u8, 255].as_slice()
+                && none.as_slice().is_empty()
+                && text.as_str() == "it's 'Ä'"
+                && *least == i64::MIN
+                && *truth
         }
         _ => false,
     }
@@ -234,7 +286,8 @@ fn is_values(values: &[Datum]) -> bool {
 
 #[test]
 fn values(rt: HostRuntime) {
-    let line = b"UPSERT INTO D.t VALUES (X'00fF', x'', 'it''s ''\xc3\x84''', -9223372036854775808, True, nuLL)";
+    let line =
+        b"UPSERT INTO D.t VALUES (X'00fF', x'', 'it''s ''\xc3\x84''', -9223372036854775808, True, nuLL)";
     match parse_line(rt.alloc(), line, false) {
         Ok(Some(Command::Upsert { table, rows })) => {
             assert!(rt; table.0.as_str() == "d" && table.1.as_str() == "t");
@@ -246,19 +299,36 @@ fn values(rt: HostRuntime) {
 
 #[test]
 fn tables(rt: HostRuntime) {
-    let line = b"CREATE TABLE d.t (k INT, V STRING, b BYTES, f BOOL, PRIMARY KEY (k, v DESC, b ASC), REFERENCES d.u)";
+    let line =
+        b"CREATE TABLE d.t (k INT, V STRING, b BYTES, f BOOL, PRIMARY KEY (k, v DESC, b ASC), REFERENCES d.u)";
     match parse_line(rt.alloc(), line, false) {
-        Ok(Some(Command::CreateTable { table, columns, key, references })) => {
+        Ok(
+            Some(
+                Command::CreateTable {
+                    table,
+                    columns,
+                    key,
+                    references,
+                },
+            ),
+        ) => {
             assert!(rt; table.1.as_str() == "t");
             match columns.as_slice() {
-                [(k, Kind::Int), (v, Kind::Text), (_, Kind::Bytes), (_, Kind::Bool)] => assert!(rt; k.as_str() == "k" && v.as_str() == "v"),
+                [
+                    (k, Kind::Int),
+                    (v, Kind::Text),
+                    (_, Kind::Bytes),
+                    (_, Kind::Bool),
+                ] => assert!(rt; k.as_str() == "k" && v.as_str() == "v"),
                 _ => assert!(rt; false),
             }
             match key.as_slice() {
                 [(_, false), (v, true), (_, false)] => assert!(rt; v.as_str() == "v"),
                 _ => assert!(rt; false),
             }
-            assert!(rt; references.as_slice().len() == 1 && references.as_slice()[0].1.as_str() == "u");
+            assert!(rt;
+                references.as_slice().len() == 1 && references.as_slice()[0].1.as_str() == "u"
+            );
         }
         _ => assert!(rt; false),
     }
@@ -266,7 +336,11 @@ fn tables(rt: HostRuntime) {
 
 #[test]
 fn times(rt: HostRuntime) {
-    match parse_line(rt.alloc(), b"SELECT * FROM d.t AS OF SYSTEM TIME '5.0000000007'", false) {
+    match parse_line(
+        rt.alloc(),
+        b"SELECT * FROM d.t AS OF SYSTEM TIME '5.0000000007'",
+        false,
+    ) {
         Ok(Some(Command::Select { at, .. })) => assert!(rt; at == Hlc::new(5, 7)),
         _ => assert!(rt; false),
     }

@@ -3,7 +3,7 @@ use Rattle.std.proofs.Common.{◌≡◌, Bool, true, false, ℕ, List, [], ◌�
 use Rattle.std.specs.Str.{bytes_eq}
 use Rattle.std.proofs.lemmas.Slice.Eq.{bytes_eq-Decides}
 use Rattle.script_grammar.specs.declared.token.Token.{Token}
-use Rattle.script_grammar.specs.Grammar.{Form, give, one, fits, word, is_word, mark, is_mark, ending, ◌making◌, ◌or◌, ◌>>=◌, ◌>>◌}
+use Rattle.script_grammar.specs.Grammar.{Form, give, one, fits, word, is_word, mark, is_mark, ◌making◌, ◌or◌, ◌>>=◌, ◌>>◌}
 use Rattle.script_grammar.specs.Columns.{Lists}
 use Rattle.script_grammar.specs.Parts.{name, name_of_token, table}
 use Rattle.script_grammar.proofs.Exactness.{apart, fits_test, or_right}
@@ -136,7 +136,7 @@ making_family pss f make fam = record { right = making_ f make fam.right; led = 
 
 -- one of two families of forms that begin in unlike ways
 pub or_ : {A : Type 0} (pss qss : List Lead) (f g : Form A) → Family pss f → Family qss g → clash_lists pss qss ≡ true → Family (pss ++ qss) (f or g)
-or_ pss qss f g fam more c = record
-  { right = record { upto = λ n. or_right n f g (λ ts a b l m. apart_lists pss qss ts c (fam.led ts a l) (more.led ts b m)) (fam.right.upto n) (more.right.upto n) }
-  ; led = λ ts a l. elim l [ inl h ↦ among_left pss qss ts (fam.led ts a h) | inr h ↦ among_right pss qss ts (more.led ts a h) ]
-  }
+or_ pss qss f g fam more c = record {
+  right = record { upto = λ n. or_right n f g (λ ts a b l m. apart_lists pss qss ts c (fam.led ts a l) (more.led ts b m)) (fam.right.upto n) (more.right.upto n) };
+  led = λ ts a l. elim l [ inl h ↦ among_left pss qss ts (fam.led ts a h) | inr h ↦ among_right pss qss ts (more.led ts a h) ];
+}

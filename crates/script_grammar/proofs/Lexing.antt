@@ -1,9 +1,8 @@
 -- The tokens of what is left of a line.
-use Rattle.std.proofs.Common.{◌≡◌, ◌≢◌, ℕ, zero, suc, ◌+◌, ◌-◌, ◌*◌, ◌<◌, ◌≤◌, Bool, true, false, ◌==◌, cond, if◌then◌else◌, String, Vec, List, [], ◌∷◌, ◌++◌, length, drop, get_or, map, Option, Some, None, option_map, refl, sym, ap, ◌∙◌, arith, rules, append_assoc}
+use Rattle.std.proofs.Common.{◌≡◌, ◌≢◌, ℕ, zero, suc, ◌+◌, ◌-◌, ◌*◌, ◌<◌, ◌≤◌, Bool, true, false, ◌==◌, if◌then◌else◌, String, Vec, List, [], ◌∷◌, ◌++◌, length, drop, get_or, Option, Some, None, option_map, refl, sym, ap, arith, append_assoc}
 use Rattle.std.proofs.lemmas.List.{append-nil}
 use Rattle.std.proofs.lemmas.Bool.Decides.{nat_tests}
 use Rattle.script_grammar.proofs.Exactness.{apart}
-use Rattle.script_grammar.specs.declared.token.Token.{Token}
 use Rattle.std.specs.String.{string_bytes, string_vec}
 use Rattle.std.specs.Str.{is_utf8, IsUtf8}
 use Rattle.std.proofs.lemmas.Str.{IsUtf8-string_bytes, IsUtf8-from_is_utf8, is_utf8-from_IsUtf8}
@@ -27,7 +26,7 @@ then_then before n b k (Some x) =
     rw (texts, lens) refl
 
 pub text_plain : (before : List ℕ) (n : ℕ) (bs : List ℕ) → 0 < length bs → get_or bs 0 0 ≢ 39
-  → found_then before n (text_body bs) ≡ found_then (before ++ get_or bs 0 0 ∷ []) (n + 1) (text_body (drop 1 bs))
+    → found_then before n (text_body bs) ≡ found_then (before ++ get_or bs 0 0 ∷ []) (n + 1) (text_body (drop 1 bs))
 unfolding text_body
 text_plain before n [] some other = absurd (omega arith)
 text_plain before n (b ∷ []) some other = rw (quote_not b other) refl
@@ -40,7 +39,7 @@ text_plain before n (b ∷ c ∷ bs) some other = rw (quote_not b other) (then_t
     quote_not b h = grind (arith, nat_tests)
 
 pub text_double : (before : List ℕ) (n : ℕ) (bs : List ℕ) → get_or bs 0 0 ≡ 39 → is_doubled bs ≡ true
-  → found_then before n (text_body bs) ≡ found_then (before ++ 39 ∷ []) (n + 2) (text_body (drop 2 bs))
+    → found_then before n (text_body bs) ≡ found_then (before ++ 39 ∷ []) (n + 2) (text_body (drop 2 bs))
 unfolding text_body
 text_double before n [] first next = absurd (apart false refl next)
 text_double before n (b ∷ []) first next = absurd (apart false refl next)
@@ -54,7 +53,7 @@ doubled_two (b ∷ []) h = absurd (apart false refl h)
 doubled_two (b ∷ c ∷ bs) h = omega arith
 
 pub text_end : (before : List ℕ) (n : ℕ) (bs : List ℕ) → get_or bs 0 0 ≡ 39 → is_doubled bs ≡ false
-  → found_then before n (text_body bs) ≡ Some (before, n + 1)
+    → found_then before n (text_body bs) ≡ Some (before, n + 1)
 unfolding text_body
 text_end before n [] first next = absurd (omega (arith, first))
 text_end before n (b ∷ []) first next = rw first (rw (append-nil before) refl)
@@ -96,14 +95,14 @@ pieces_blank at (b ∷ bs) some h =
     rw (h, k) refl
 
 pub pieces_bad : (at : ℕ) (bs : List ℕ) → 0 < length bs → is_blank (get_or bs 0 0) ≡ false → is_bad (first_token (get_or bs 0 0) (drop 1 bs)).token ≡ true
-  → pieces_after 0 at bs ≡ piece (first_token (get_or bs 0 0) (drop 1 bs)).token at ∷ []
+    → pieces_after 0 at bs ≡ piece (first_token (get_or bs 0 0) (drop 1 bs)).token at ∷ []
 unfolding pieces_after
 pieces_bad at [] some h bad = absurd (omega arith)
 pieces_bad at (b ∷ bs) some h bad = rw (h, bad) refl
 
 pub pieces_token : (at : ℕ) (bs : List ℕ) → 0 < length bs → is_blank (get_or bs 0 0) ≡ false → is_bad (first_token (get_or bs 0 0) (drop 1 bs)).token ≡ false
-  → 0 < (first_token (get_or bs 0 0) (drop 1 bs)).len → (first_token (get_or bs 0 0) (drop 1 bs)).len ≤ length bs
-  → pieces_after 0 at bs ≡ piece (first_token (get_or bs 0 0) (drop 1 bs)).token at ∷ pieces_after 0 (at + (first_token (get_or bs 0 0) (drop 1 bs)).len) (drop (first_token (get_or bs 0 0) (drop 1 bs)).len bs)
+    → 0 < (first_token (get_or bs 0 0) (drop 1 bs)).len → (first_token (get_or bs 0 0) (drop 1 bs)).len ≤ length bs
+    → pieces_after 0 at bs ≡ piece (first_token (get_or bs 0 0) (drop 1 bs)).token at ∷ pieces_after 0 (at + (first_token (get_or bs 0 0) (drop 1 bs)).len) (drop (first_token (get_or bs 0 0) (drop 1 bs)).len bs)
 unfolding pieces_after
 pieces_token at [] some h bad long few = absurd (omega arith)
 pieces_token at (b ∷ bs) some h bad long few =
@@ -122,7 +121,7 @@ pieces_none at (b ∷ bs) h = absurd (omega arith)
 -- ---- bytes in hexadecimal digits
 
 pub hex_more : (before ds : List ℕ) → 2 ≤ length ds
-  → before ++ hex_bytes ds ≡ (before ++ (16 * hex_value (get_or ds 0 0) + hex_value (get_or ds 1 0)) ∷ []) ++ hex_bytes (drop 2 ds)
+    → before ++ hex_bytes ds ≡ (before ++ (16 * hex_value (get_or ds 0 0) + hex_value (get_or ds 1 0)) ∷ []) ++ hex_bytes (drop 2 ds)
 unfolding hex_bytes
 hex_more before [] some = absurd (omega (arith, some))
 hex_more before (d ∷ []) some = absurd (omega (arith, some))

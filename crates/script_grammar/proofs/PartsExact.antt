@@ -9,9 +9,9 @@ use Rattle.row_codec.specs.declared.rows.Datum.TheVariants.{Null}
 use Rattle.row_codec.specs.declared.rows.Kind.TheVariants.{Int as IntKind}
 use Rattle.script_grammar.specs.declared.token.Token.{Token}
 use Rattle.script_grammar.specs.declared.token.Token.TheVariants.{Word, Number, Text, Bytes, Mark, Bad}
-use Rattle.script_grammar.specs.Grammar.{Form, give, one, fits, word, is_word, mark, is_mark, repeated, listed, either, maybe_one, ending, ◌>>=◌, ◌>>◌}
-use Rattle.script_grammar.specs.Parts.{name, name_of_token, new_name_of, is_reserved, count_of, kind_of, datum_of, time_of, order_of, table, row, rows, time_given, asof, column, column_and_comma, starts_column, columns, key_column, key, reference, references, PartsAreExact}
-use Rattle.script_grammar.proofs.Exactness.{IsPart, IsPartBefore, IsRest, Refuses, one_part, part_rest, part_then, part_before, part_before_then, give_rest, give_then, upto_assoc, repeat_then, listed_rest, either_then, apart, wants_one, wants_bare, refuses_one, refuses_give, refuses_then, word_part, mark_part}
+use Rattle.script_grammar.specs.Grammar.{Form, give, one, fits, word, is_word, mark, is_mark, repeated, maybe_one, ending, ◌>>=◌, ◌>>◌}
+use Rattle.script_grammar.specs.Parts.{name, name_of_token, new_name_of, count_of, kind_of, datum_of, time_of, order_of, table, row, rows, time_given, asof, column, column_and_comma, starts_column, columns, key_column, key, reference, references, PartsAreExact}
+use Rattle.script_grammar.proofs.Exactness.{IsPart, IsPartBefore, one_part, part_rest, part_then, part_before, part_before_then, give_rest, give_then, upto_assoc, repeat_then, listed_rest, either_then, apart, wants_bare, refuses_one, refuses_give, word_part, mark_part}
 use Rattle.script_grammar.proofs.Rights.{IsRight, Bars, Opens, explained, then_, word_, then_before_, end_, give_, repeat_, listed_, either_, fits_none, opens_mark, opens_word, bars_mark_mark, bars_mark_end, bars_word_end, bars_give, bars_then, bars_one, opens_one}
 use Rattle.script_grammar.proofs.Families.{Family, family, or_, making_family, lead_word, lead_table, lead_end}
 
@@ -52,9 +52,9 @@ pub row_part : IsPart row
 unfolding row
 row_part =
     part_then (mark 40) _ (mark_part 40 refl) (λ _. listed_rest (λ _. false) (one datum_of) close (part_before (one datum_of) datum_part) (λ t hit. absurd (apart false refl hit))
-        (λ vs. part_rest (close vs) (part_then (mark 41) (λ _. give vs) (mark_part 41 refl) (λ _. give_rest vs)))
-        (λ vs. (bars_mark_mark 44 41 (give vs) refl).bars)
-        (λ vs t ts b rest hit l. apart false refl hit))
+    (λ vs. part_rest (close vs) (part_then (mark 41) (λ _. give vs) (mark_part 41 refl) (λ _. give_rest vs)))
+    (λ vs. (bars_mark_mark 44 41 (give vs) refl).bars)
+    (λ vs t ts b rest hit l. apart false refl hit))
   where
     close : List Datum → Form (List Datum)
     close vs = mark 41 >> give vs
@@ -103,10 +103,11 @@ pub columns_part : IsPartBefore starts_column columns
 unfolding columns
 columns_part = part_before_then starts_column column_and_comma tail column_and_comma_part (λ C n g right refuses x.
     upto_assoc more (λ xs. give (x ∷ xs)) g n (repeat_then starts_column column_and_comma column_and_comma_part column_and_comma_opens.opens n (λ xs. give (x ∷ xs) >>= g)
-        (λ xs. give_then (x ∷ xs) g n (right (x ∷ xs))) (λ xs. refuses_give starts_column (x ∷ xs) g (refuses (x ∷ xs)))))
+    (λ xs. give_then (x ∷ xs) g n (right (x ∷ xs))) (λ xs. refuses_give starts_column (x ∷ xs) g (refuses (x ∷ xs)))))
   where
     more : Form (List (List ℕ × Kind))
     more = repeated starts_column column_and_comma
+
     tail : List ℕ × Kind → Form (List (List ℕ × Kind))
     tail x = more >>= (λ xs. give (x ∷ xs))
 
@@ -137,12 +138,13 @@ unfolding key_column
 key_column_part = part_before_then stop name tail name_part (λ C n g right refuses name'.
     upto_assoc (maybe_one order_of false) (λ d. give (name', d)) g n
     (either_then stop (one order_of) (give false) (wants_bare stop order_of (λ t a e. some_is (order_of t) a e)) n (λ d. give (name', d) >>= g)
-        (part_rest (one order_of) order_part C n (λ d. give (name', d) >>= g) (λ d. give_then (name', d) g n (right (name', d))))
-        (give_then false (λ d. give (name', d) >>= g) n (give_then (name', false) g n (right (name', false))))
-        (refuses_give stop false (λ d. give (name', d) >>= g) (refuses_give stop (name', false) g (refuses (name', false))))))
+    (part_rest (one order_of) order_part C n (λ d. give (name', d) >>= g) (λ d. give_then (name', d) g n (right (name', d))))
+    (give_then false (λ d. give (name', d) >>= g) n (give_then (name', false) g n (right (name', false))))
+    (refuses_give stop false (λ d. give (name', d) >>= g) (refuses_give stop (name', false) g (refuses (name', false))))))
   where
     stop : Token → Bool
     stop t = is_some (order_of t)
+
     tail : List ℕ → Form (List ℕ × Bool)
     tail n = maybe_one order_of false >>= (λ d. give (n, d))
 
@@ -151,9 +153,9 @@ unfolding key
 key_part =
     part_then (word (codes "primary")) _ (word_part (codes "primary") refl) (λ _. part_rest _ (part_then (word (codes "key")) _ (word_part (codes "key") refl) (λ _. part_rest _ (
     part_then (mark 40) _ (mark_part 40 refl) (λ _. listed_rest (λ t. is_some (order_of t)) key_column close key_column_part (order_is_no_mark 44)
-        (λ ns. part_rest (close ns) (part_then (mark 41) (λ _. give ns) (mark_part 41 refl) (λ _. give_rest ns)))
-        (λ ns. (bars_mark_mark 44 41 (give ns) refl).bars)
-        (λ ns. refuses_one (λ t. is_some (order_of t)) (fits (is_mark 41)) (λ _. give ns) (λ t hit. fits_none (is_mark 41) t (order_is_no_mark 41 t hit))))))))
+    (λ ns. part_rest (close ns) (part_then (mark 41) (λ _. give ns) (mark_part 41 refl) (λ _. give_rest ns)))
+    (λ ns. (bars_mark_mark 44 41 (give ns) refl).bars)
+    (λ ns. refuses_one (λ t. is_some (order_of t)) (fits (is_mark 41)) (λ _. give ns) (λ t hit. fits_none (is_mark 41) t (order_is_no_mark 41 t hit))))))))
   where
     close : List (List ℕ × Bool) → Form (List (List ℕ × Bool))
     close ns = mark 41 >> give ns
@@ -180,16 +182,16 @@ references_ k right bars = repeat_ (is_mark 44) reference k reference_part refer
 -- ---- the law
 
 pub parts_exact : PartsAreExact
-parts_exact = record
-  { a_name = explained _ (then_ name _ name_part (λ n. end_ n))
-  ; a_count = explained _ (then_ (one count_of) _ count_part (λ n. end_ n))
-  ; a_table = explained _ (then_ table _ table_part (λ t. end_ t))
-  ; some_rows = explained _ (rows_ _ (λ rs. end_ rs) (λ rs. bars_mark_end 44 rs refl))
-  ; a_past_time = explained _ (asof_ _ (λ t. end_ t) (bars_word_end (codes "as") None))
-  ; a_column = explained _ (then_ column _ column_part (λ c. end_ c))
-  ; some_columns = explained _ (then_before_ starts_column columns _ columns_part (λ cs. then_ key _ key_part (λ ks. references_ _ (λ rs. end_ _) (λ rs. bars_mark_end 44 _ refl))) (λ cs. key_then_bars_column _))
-  ; a_choice = explained _ (or_ _ _ _ _ (led_by (codes "key") refl) (making_family _ _ _ (led_by (codes "references") refl)) refl).right
-  }
+parts_exact = record {
+  a_name = explained _ (then_ name _ name_part (λ n. end_ n));
+  a_count = explained _ (then_ (one count_of) _ count_part (λ n. end_ n));
+  a_table = explained _ (then_ table _ table_part (λ t. end_ t));
+  some_rows = explained _ (rows_ _ (λ rs. end_ rs) (λ rs. bars_mark_end 44 rs refl));
+  a_past_time = explained _ (asof_ _ (λ t. end_ t) (bars_word_end (codes "as") None));
+  a_column = explained _ (then_ column _ column_part (λ c. end_ c));
+  some_columns = explained _ (then_before_ starts_column columns _ columns_part (λ cs. then_ key _ key_part (λ ks. references_ _ (λ rs. end_ _) (λ rs. bars_mark_end 44 _ refl))) (λ cs. key_then_bars_column _));
+  a_choice = explained _ (or_ _ _ _ _ (led_by (codes "key") refl) (making_family _ _ _ (led_by (codes "references") refl)) refl).right;
+}
   where
     led_by : (w : List ℕ) → fits (is_word w) (Word w) ≡ Some tt → Family ((Some w ∷ None ∷ None ∷ None ∷ []) ∷ []) (word w >> (table >>= (λ t. ending t)))
     led_by w is = family _ _ (word_ w _ is (then_ table _ table_part (λ t. end_ t))) (lead_word _ w _ (lead_table _ _ (λ t. lead_end _)))

@@ -1,11 +1,11 @@
 -- Forms that are read right, put together as their `do` blocks are.
-use Rattle.std.proofs.Common.{◌≡◌, ℕ, ◌≤◌, Bool, true, false, List, [], ◌∷◌, length, Option, Some, None, refl, arith}
+use Rattle.std.proofs.Common.{◌≡◌, ℕ, Bool, true, false, List, length, Option, Some, None, refl, arith}
 use Rattle.std.proofs.lemmas.Bool.{eqb-true}
 use Rattle.std.proofs.lemmas.Slice.Eq.{bytes_eq-Decides}
 use Rattle.script_grammar.specs.declared.token.Token.{Token}
 use Rattle.script_grammar.specs.declared.token.Token.TheVariants.{Word, Number, Text, Bytes, Mark, Bad}
 use Rattle.script_grammar.specs.Grammar.{Form, give, one, fits, word, is_word, mark, is_mark, repeated, listed, either, ending, ◌making◌, ◌>>=◌, ◌>>◌}
-use Rattle.script_grammar.specs.Columns.{Lists, Explains, IsExact}
+use Rattle.script_grammar.specs.Columns.{IsExact}
 use Rattle.script_grammar.proofs.Exactness.{ReadsUpTo, Refuses, Wants, IsPart, IsPartBefore, part_rest, part_before, give_then, upto_assoc, repeat_then, listed_upto, either_then, ending_right, making_upto, word_part, mark_part, apart, fits_test, wants_one, refuses_one, refuses_give, refuses_either, refuses_ending, refuses_then}
 
 -- a form that goes to the end of its line is read right
@@ -54,8 +54,10 @@ pub repeat_ : {A B : Type 0} (starts : Token → Bool) (f : Form A) (g : List A 
 repeat_ starts f g part wants right refuses = record { upto = λ n. repeat_then starts f part wants.opens n g (λ os. (right os).upto n) (λ os. (refuses os).bars) }
 
 pub listed_ : {A B : Type 0} (f : Form A) (k : List A → Form B) → IsPart f → ((xs : List A) → IsRight (k xs)) → ((xs : List A) → Bars (is_mark 44) (k xs)) → IsRight (listed f >>= k)
-listed_ f k part right bars = record { upto = λ n. listed_upto (λ _. false) f k n (part_before f part) (λ t hit. absurd (apart false refl hit))
-    (λ xs. (right xs).upto n) (λ xs. (bars xs).bars) (λ xs t ts b rest hit l. apart false refl hit) }
+listed_ f k part right bars = record {
+  upto = λ n. listed_upto (λ _. false) f k n (part_before f part) (λ t hit. absurd (apart false refl hit))
+      (λ xs. (right xs).upto n) (λ xs. (bars xs).bars) (λ xs t ts b rest hit l. apart false refl hit);
+}
 
 pub either_ : {A B : Type 0} (starts : Token → Bool) (f g : Form A) (k : A → Form B) → Opens starts f → IsRight (f >>= k) → IsRight (g >>= k) → Bars starts (g >>= k) → IsRight (either starts f g >>= k)
 either_ starts f g k wants left right refuses = record { upto = λ n. either_then starts f g wants.opens n k (left.upto n) (right.upto n) refuses.bars }

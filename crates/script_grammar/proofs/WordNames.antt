@@ -1,11 +1,11 @@
 -- A word in lower case is a name, unless it is too long for one.
-use Rattle.std.proofs.Common.{◌≡◌, ℕ, ◌+◌, Bool, true, false, ◌&&◌, ◌||◌, cond, nat_lt, nat_le, List, [], ◌∷◌, map, length, refl, arith}
+use Rattle.std.proofs.Common.{◌≡◌, ℕ, Bool, true, false, ◌&&◌, cond, nat_le, List, [], ◌∷◌, map, length, refl, arith}
 use Rattle.std.proofs.lemmas.Bool.Decides.{nat_tests}
 use Rattle.std.proofs.lemmas.List.{length-map}
 use Rattle.std.proofs.lemmas.List.Sums.{take_while-cons}
 use Rattle.std.specs.Char.{to_ascii_lowercase}
 use Rattle.std.specs.List.{take_while, list_all}
-use Rattle.table_descriptors.specs.Names.{is_name, is_name_text, is_name_start, is_name_byte}
+use Rattle.table_descriptors.specs.Names.{is_name, is_name_start, is_name_byte}
 use Rattle.script_grammar.specs.Tokens.{is_word_start, is_word_byte}
 
 lower_start : (b : ℕ) → is_word_start b ≡ true → is_name_start (to_ascii_lowercase b) ≡ true
@@ -23,7 +23,7 @@ lower_bytes (b ∷ bs) = rw (take_while-cons is_word_byte b bs) (go (lower_bytes
     go more false e = refl
 
 pub word_is_name : (b : ℕ) (bs : List ℕ) → is_word_start b ≡ true
-  → is_name (map to_ascii_lowercase (take_while is_word_byte (b ∷ bs))) ≡ nat_le (length (take_while is_word_byte (b ∷ bs))) 32
+    → is_name (map to_ascii_lowercase (take_while is_word_byte (b ∷ bs))) ≡ nat_le (length (take_while is_word_byte (b ∷ bs))) 32
 unfolding is_name
 word_is_name b bs start =
     let byte : is_word_byte b ≡ true = rw start refl in

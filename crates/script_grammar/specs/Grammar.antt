@@ -27,10 +27,10 @@ and_read (Fault left) go = Fault left
 
 infixl 10 ◌>>=◌
 abbrev pub ◌>>=◌ : {A B : Type 0} → Form A → (A → Form B) → Form B
-f >>= g = record
-  { Spells = λ ts b rest. (a : _) × (middle : List Token) × f.Spells ts a middle × (g a).Spells middle b rest
-  ; read = λ ts. and_read (f.read ts) (λ a rest. (g a).read rest)
-  }
+f >>= g = record {
+  Spells = λ ts b rest. (a : _) × (middle : List Token) × f.Spells ts a middle × (g a).Spells middle b rest;
+  read = λ ts. and_read (f.read ts) (λ a rest. (g a).read rest);
+}
 
 infixl 10 ◌>>◌
 abbrev pub ◌>>◌ : {A B : Type 0} → Form A → Form B → Form B
@@ -116,10 +116,10 @@ read_listed item ts = and_read (item ts) (λ x rest. and_read (read_within (leng
 
 -- `f | g`, where f begins with a token that starts it, and g does not
 abbrev pub either : {A : Type 0} → (Token → Bool) → Form A → Form A → Form A
-either starts f g = record
-  { Spells = λ ts a rest. f.Spells ts a rest ⊎ g.Spells ts a rest
-  ; read = λ ts. if begins_with starts ts then f.read ts else g.read ts
-  }
+either starts f g = record {
+  Spells = λ ts a rest. f.Spells ts a rest ⊎ g.Spells ts a rest;
+  read = λ ts. if begins_with starts ts then f.read ts else g.read ts;
+}
 
 -- `[token of a class]`
 abbrev pub maybe_one : {A : Type 0} → (Token → Option A) → A → Form A
@@ -146,10 +146,10 @@ read_making p make = and_read p (λ a rest. Read (make a) rest)
 -- what is made of what f says
 infixl 7 ◌making◌
 abbrev pub ◌making◌ : {A B : Type 0} → Form A → (A → B) → Form B
-f making make = record
-  { Spells = λ ts b rest. (a : _) × f.Spells ts a rest × (b ≡ make a)
-  ; read = λ ts. read_making (f.read ts) make
-  }
+f making make = record {
+  Spells = λ ts b rest. (a : _) × f.Spells ts a rest × (b ≡ make a);
+  read = λ ts. read_making (f.read ts) make;
+}
 
 abbrev pub farthest : {A : Type 0} → Progress A → Progress A → Progress A
 farthest (Read a rest) other = Read a rest
@@ -159,10 +159,10 @@ farthest (Fault left) (Fault less) = Fault (min left less)
 -- one of two forms of a line; of two faults the farther one
 infixl 5 ◌or◌
 abbrev pub ◌or◌ : {A : Type 0} → Form A → Form A → Form A
-f or g = record
-  { Spells = λ ts a rest. f.Spells ts a rest ⊎ g.Spells ts a rest
-  ; read = λ ts. farthest (f.read ts) (g.read ts)
-  }
+f or g = record {
+  Spells = λ ts a rest. f.Spells ts a rest ⊎ g.Spells ts a rest;
+  read = λ ts. farthest (f.read ts) (g.read ts);
+}
 
 -- ---- what a function of the code answered
 

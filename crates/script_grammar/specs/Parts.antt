@@ -1,5 +1,5 @@
 -- The parts that forms of lines share.
-use Rattle.std.specs.Prelude.{◌≡◌, ℕ, ℤ, pos, negsuc, Bool, true, false, List, [], ◌∷◌, codes, Option, Some, None, if◌then◌else◌, ◌||◌, is_some}
+use Rattle.std.specs.Prelude.{ℕ, ℤ, pos, negsuc, Bool, true, false, List, ◌∷◌, codes, Option, Some, None, if◌then◌else◌, ◌||◌, is_some}
 use Rattle.std.specs.Str.{bytes_eq}
 use Rattle.mvcc_keys.specs.Times.{Time}
 use Rattle.mvcc_keys.specs.TimeTexts.{read_time}

@@ -113,7 +113,10 @@ fn put<T: Drop>(items: &mut Vec<T>, item: T) -> Result<(), Memory>
 }
 
 /// The part as often as it stands there.
-pub fn repeated<P: Part>(alloc: Global, tokens: &[Token]) -> Result<(Vec<P::Value>, &[Token]), Broken>
+pub fn repeated<P: Part>(
+    alloc: Global,
+    tokens: &[Token],
+) -> Result<(Vec<P::Value>, &[Token]), Broken>
     ensures { Gives (λ x. x.0.items) (λ x. x.1.now) result (read_within (length tokens.now) P.starts P.reads tokens.now) }
 {
     let mut found = Vec::new(alloc);
@@ -166,7 +169,7 @@ pub fn farthest<T: Drop>(one: Result<T, Broken>, other: Result<T, Broken>) -> Re
     match (one, other) {
         (Ok(found), _) => Ok(found),
         (Err(Broken::At(_)), Ok(found)) => Ok(found),
-        (Err(Broken::At(left)), Err(Broken::At(less))) => Err(Broken::At(if left < less { left } else { less })),
+        (Err(Broken::At(left)), Err(Broken::At(less))) => Err(Broken::At(left.min(less))),
         _ => Err(Broken::Memory),
     }
 }

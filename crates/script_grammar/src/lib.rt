@@ -10,8 +10,12 @@ mod quoted;
 mod token;
 
 pub use broken::Broken;
-pub use forms::{Item, Part, begins_with_word, ending, farthest, is_mark, listed, mark, repeated, word};
+pub use forms::{
+    Item, Part, begins_with_word, ending, farthest, is_mark, listed, mark, repeated, word,
+};
 pub use laws::{parts_are_exact, words_are_names};
 pub use lexer::{is_blank, tokens};
-pub use parts::{asof, column, columns, count, key, kind, name, new_name, references, row, rows, table, time};
+pub use parts::{
+    asof, column, columns, count, key, kind, name, new_name, references, row, rows, table, time,
+};
 pub use token::Token;

@@ -3,7 +3,9 @@ ghost use Rattle.std.specs.Prelude.{◌≡◌, false, IfOk};
 ghost use Rattle.script_grammar.specs.Grammar.{Gives, read_one, maybe_one, is_mark};
 ghost use Rattle.script_grammar.specs.Parts.{name, is_reserved, new_name_of, count_of, kind_named, kind_of, datum_named, datum_of, time_of, order_named, order_of, table, row, rows, time_given, asof, column, column_and_comma, starts_column, columns, key_column, key, reference, references};
 
-use crate::forms::{Item, Part, begins_with_word, is_mark, listed, mark, repeated, with_first, word};
+use crate::forms::{
+    Item, Part, begins_with_word, is_mark, listed, mark, repeated, with_first, word,
+};
 use crate::{Broken, Token};
 use mvcc_keys::{Hlc, Items, Memory, parse_time};
 use row_codec::{Datum, Kind, Row};
@@ -31,7 +33,9 @@ pub fn new_name(alloc: Global, tokens: &[Token]) -> Result<(Name, &[Token]), Bro
     ensures { Gives (λ x. x.0) (λ x. x.1.now) result (read_one new_name_of tokens.now) }
 {
     match tokens.split_first() {
-        Some((Token::Word(found), rest)) if !is_reserved(found.as_bytes()) => Ok((found.copy(alloc)?, rest)),
+        Some((Token::Word(found), rest)) if !is_reserved(found.as_bytes()) => {
+            Ok((found.copy(alloc)?, rest))
+        }
         _ => Err(Broken::At(tokens.len())),
     }
 }
@@ -358,7 +362,10 @@ impl Part for EachReference {
 }
 
 /// The tables that a new table references, each with the comma before it.
-pub fn references(alloc: Global, tokens: &[Token]) -> Result<(Items<(Name, Name)>, &[Token]), Broken>
+pub fn references(
+    alloc: Global,
+    tokens: &[Token],
+) -> Result<(Items<(Name, Name)>, &[Token]), Broken>
     ensures { Gives (λ x. x.0) (λ x. x.1.now) result (references.read tokens.now) }
 {
     let (tables, rest) = repeated::<EachReference>(alloc, tokens)?;

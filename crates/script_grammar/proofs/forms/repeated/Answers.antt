@@ -1,8 +1,8 @@
-use Rattle.std.proofs.Common.{rules, ◌≡◌, ℕ, suc, Option, Some, None, List, Bool, length, [], ◌∷◌, ◌++◌, ◌+◌, ◌-◌, ◌*◌, ◌<◌, ◌≤◌, true, false, nat_eq, nat_lt, sym, ◌∙◌, ap, arith}
+use Rattle.std.proofs.Common.{◌≡◌, suc, length, ◌+◌, ◌-◌, true, false, sym, ◌∙◌, arith}
 use Rattle.std.proofs.lemmas.Bool.Decides.{nat_tests}
 use Rattle.std.proofs.lemmas.Result.{err_from_is_err_and}
-use Rattle.script_grammar.specs.Grammar.{Gives, Progress, Read, read_one, read_within, begins_with, with_front, Fails}
-use Rattle.script_grammar.proofs.Repeating.{stopped, ran_out, went_on, went_wrong}
+use Rattle.script_grammar.specs.Grammar.{Read, read_within, begins_with, Fails}
+use Rattle.script_grammar.proofs.Repeating.{stopped, went_on, went_wrong}
 use Rattle.script_grammar.proofs.forms.repeated.Goals as goal
 
 pub returns-then-not-begins_with : goal.returns-then-not-begins_with

@@ -1,4 +1,4 @@
-use Rattle.std.proofs.Common.{◌≡◌, ◌<◌, ◌≤◌, ◌+◌, ◌*◌, ◌-◌, ℕ, ◌∷◌, length, get_or, true, false, suc, drop, sym, ap, ◌∙◌, arith, rules, drop-cons, add-one}
+use Rattle.std.proofs.Common.{◌≡◌, ◌+◌, ◌*◌, ◌-◌, ◌∷◌, get_or, suc, drop, arith, drop-cons}
 use Rattle.std.proofs.lemmas.Bool.Decides.{nat_tests}
 use Rattle.script_grammar.specs.Tokens.{number_from}
 use Rattle.script_grammar.proofs.Lexing.{number_from_grows}

@@ -1,6 +1,6 @@
-use Rattle.std.proofs.Common.{rules, ◌≡◌, ◌≢◌, ◌<◌, ◌≤◌, ◌-◌, ◌+◌, ℕ, true, false, length, length-drop, drop, get_or, sym, ◌∙◌, arith, refl}
+use Rattle.std.proofs.Common.{◌≡◌, ◌≢◌, ◌<◌, ◌-◌, ◌+◌, true, false, length, length-drop, drop, get_or, sym, ◌∙◌, arith, refl}
 use Rattle.std.proofs.lemmas.Bool.Decides.{nat_tests}
-use Rattle.script_grammar.specs.Tokens.{is_doubled, text_body}
+use Rattle.script_grammar.specs.Tokens.{is_doubled}
 use Rattle.script_grammar.proofs.Lexing.{text_plain, text_double, text_end, text_none, doubled_two}
 use Rattle.script_grammar.proofs.quoted.text_body.Goals as goal
 
@@ -11,12 +11,11 @@ all-preserved-then-first-ne39 c =
     let other : get_or rest 0 0 ≢ 39 = c.if-first-ne39.true in
     let back : c.split_at.result.1.now ≡ drop 1 rest = c.split_at.ensures.back in
     let short : length c.split_at.result.1.now ≡ length rest - 1 = rw back (length-drop 1 rest) in
-    let k : length c.args.bytes.now - length c.split_at.result.1.now ≡ c.all.len + 1 = omega (arith, short, some, c.all.invariant.0, c.all.invariant.1) in
-    ( omega (arith, short, c.all.invariant.0)
-    , refl
-    , rw (k, c.in_ok-put_byte.ensures, back) (sym (text_plain c.all.found.items c.all.len rest some other) ∙ c.all.invariant.2)
+    let k : length c.args.bytes.now - length c.split_at.result.1.now ≡ c.all.len + 1 = omega (arith, short, some, c.all.invariant.0, c.all.invariant.1) in (
+      omega (arith, short, c.all.invariant.0),
+      refl,
+      rw (k, c.in_ok-put_byte.ensures, back) (sym (text_plain c.all.found.items c.all.len rest some other) ∙ c.all.invariant.2),
     )
-
 
 pub returns-then-not-is_doubled-clause-value : goal.returns-then-not-is_doubled-clause-value
 returns-then-not-is_doubled-clause-value c =
@@ -33,10 +32,10 @@ all-preserved c =
     let two = doubled_two rest double in
     let back : c.split_at-else-first-ne39.result.1.now ≡ drop 2 rest = c.split_at-else-first-ne39.ensures.back in
     let short : length c.split_at-else-first-ne39.result.1.now ≡ length rest - 2 = rw back (length-drop 2 rest) in
-    let k : length c.args.bytes.now - length c.split_at-else-first-ne39.result.1.now ≡ c.all.len + 2 = omega (arith, short, two, c.all.invariant.0, c.all.invariant.1) in
-    ( omega (arith, short, c.all.invariant.0)
-    , refl
-    , rw (k, c.in_ok-put_byte-2.ensures, back) (sym (text_double c.all.found.items c.all.len rest first double) ∙ c.all.invariant.2)
+    let k : length c.args.bytes.now - length c.split_at-else-first-ne39.result.1.now ≡ c.all.len + 2 = omega (arith, short, two, c.all.invariant.0, c.all.invariant.1) in (
+      omega (arith, short, c.all.invariant.0),
+      refl,
+      rw (k, c.in_ok-put_byte-2.ensures, back) (sym (text_double c.all.found.items c.all.len rest first double) ∙ c.all.invariant.2),
     )
 
 pub returns-clause-value : goal.returns-clause-value

@@ -1,4 +1,4 @@
-use Rattle.std.proofs.Common.{◌≡◌, sym, refl, false}
+use Rattle.std.proofs.Common.{sym, refl, false}
 use Rattle.script_grammar.proofs.Exactness.{apart}
 use Rattle.script_grammar.proofs.Lexing.{utf8_found, utf8_lost}
 use Rattle.script_grammar.proofs.quoted.utf8_text.Goals as goal
