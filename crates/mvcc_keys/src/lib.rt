@@ -2,12 +2,17 @@
 #![tactic(auto)]
 
 mod bytes;
+mod codes;
 mod entries;
 mod items;
 mod time;
 mod time_text;
 
 pub use bytes::{Blob, Memory, Text};
+pub use codes::{
+    cmp_mvcc, encode_mvcc, mvcc_keys_are_exact, put_time, split_mvcc, take_time,
+    time_bytes_are_exact,
+};
 pub use entries::{Entry, EntryView};
 pub use items::Items;
 pub use time::Hlc;

@@ -1,1 +1,5 @@
 pub mod RowEnds
+pub mod Texts
+pub mod KeyOrder
+pub mod KeyLaws
+pub mod ValueLaws

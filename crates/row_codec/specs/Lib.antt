@@ -1,1 +1,5 @@
 pub mod RowOrder
+pub mod KeyReading
+pub mod RowKeys
+pub mod RowValues
+pub mod Views

@@ -1,0 +1,11 @@
+pub mod Ranks
+pub mod Digits
+pub mod Counts
+pub mod NumberOf
+pub mod Spellings
+pub mod UnsignedOrder
+pub mod SignedOrder
+pub mod Answered
+pub mod Escapes
+pub mod Unescapes
+pub mod Grammars
