@@ -1,13 +1,20 @@
 //! The outside: what a run reads from, writes to and keeps its objects on.
 #![tactic(auto)]
 
+mod call;
+mod disk;
+mod entries;
 mod memory;
+mod memory_disk;
 mod next_bytes;
 mod standard;
 mod sure;
 mod traits;
 
+pub use call::DiskCall;
+pub use disk::{Disk, DiskFault};
 pub use memory::{MemorySink, MemorySource};
+pub use memory_disk::MemoryDisk;
 pub use standard::{StdSink, StdSource};
 pub use sure::{SureSink, SureSource, sure_streams_never_fail};
 pub use traits::{Failed, Sink, Source};

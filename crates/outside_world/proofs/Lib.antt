@@ -1,0 +1,4 @@
+pub mod ByName
+pub mod Kept
+pub mod MemoryCalls
+pub mod Names
