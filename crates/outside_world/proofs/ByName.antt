@@ -1,13 +1,13 @@
 -- What a change of one entry, or of one touched name, does to lists by name.
-use Rattle.std.proofs.Common.{◌≡◌, ◌≢◌, ◌⊎◌, ⊎_elim, ℕ, zero, suc, ◌≤◌, insert, take_while, length, one-add, arith, Bool, true, false, cond, not, T, List, [], ◌∷◌, map, Option, Some, None, refl, sym, ◌∙◌, ap, subst}
+use Rattle.std.proofs.Common.{◌≡◌, ◌≢◌, ⊎_elim, ℕ, zero, suc, ◌≤◌, insert, take_while, length, one-add, arith, Bool, true, false, cond, not, T, List, [], ◌∷◌, map, Option, Some, None, refl, sym, ◌∙◌, ap, subst}
 use Rattle.std.proofs.lemmas.List.Folds.{length-prefix_len}
 use Rattle.std.proofs.lemmas.List.Sums.{prefix_len-le-length}
 use Rattle.std.specs.Prelude.{is_some}
 use Rattle.std.specs.Cmp.{eq_by_cmp_equiv}
 use Rattle.std.specs.FinMap.{find, put, is_sorted, get-from_sorted, entries-from_sorted, keys, slice_cmp-IsAntisymmetric, nat_cmp-IsAntisymmetric}
-use Rattle.std.specs.FinMap.Entries.{by_order, where_key, is_sorted-put, find-put, is_sorted-where_key, find-where_key, is_some-find}
+use Rattle.std.specs.FinMap.Entries.{by_order, is_sorted-put, find-put, is_sorted-where_key, find-where_key, is_some-find}
 use Rattle.std.specs.declared.cmp.Ordering.TheVariants.{Less, Equal, Greater}
-use Rattle.std.specs.List.{list_any, prefix_len}
+use Rattle.std.specs.List.{list_any}
 use Rattle.std.specs.Cmp.Lexicographic.{slice_cmp, nat_list_cmp_total}
 use Rattle.std.specs.Ordering.{eq_by_cmp, is_eq, is_gt, nat_cmp}
 use Rattle.outside_world.specs.Entries.{Entries, last_value, IsSet, IsTouched, in_order, are_in_order, is_touched, objects_of, others}
@@ -120,7 +120,7 @@ insert-entries_of n (t ∷ ts) (suc k) = ap (λ (l : List (List ℕ × Unit {0})
 touched_by : (ts us : List (List ℕ)) (name : List ℕ) → T (are_in_order ts) → entries_of us ≡ put (slice_cmp nat_cmp) name tt (others (λ e. e.0) name (entries_of ts)) → IsTouched name ts us
 touched_by ts us name h is =
     let found : (q : List ℕ) → is_touched us q ≡ is_some (cond (eq_by_cmp (slice_cmp nat_cmp) q name) (Some tt) (find (slice_cmp nat_cmp) q (entries_of ts))) =
-      λ q. touched-find us q ∙ ap (λ (l : List (List ℕ × Unit {0})). is_some (find (slice_cmp nat_cmp) q l)) is ∙ ap (λ (o : Option (Unit {0})). is_some o) (find-again name q tt (entries_of ts)) in
+    λ q. touched-find us q ∙ ap (λ (l : List (List ℕ × Unit {0})). is_some (find (slice_cmp nat_cmp) q l)) is ∙ ap (λ (o : Option (Unit {0})). is_some o) (find-again name q tt (entries_of ts)) in
     record {
       ordered = subst (λ (l : List (List ℕ × Unit {0})). T (is_sorted (slice_cmp nat_cmp) l)) (sym is) (sorted-again name tt (entries_of ts) h);
       here = found name ∙ ap (λ (b : Bool). is_some (cond b (Some tt) (find (slice_cmp nat_cmp) name (entries_of ts)))) (same_name name);

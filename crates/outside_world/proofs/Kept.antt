@@ -1,11 +1,11 @@
--- What becomes of the states that a disk in memory has had, when its names are touched and when one more joins them.
-use Rattle.std.proofs.Common.{◌≡◌, ◌≢◌, ◌⊎◌, inl, inr, ⊎_elim, ℕ, zero, suc, ◌≤◌, Bool, true, false, List, [], ◌∷◌, ◌++◌, length, drop, refl, sym, ◌∙◌, ap, subst, arith, length-append}
+-- One more state joins those that a disk in memory has had.
+use Rattle.std.proofs.Common.{◌≡◌, ◌⊎◌, inl, inr, ⊎_elim, ℕ, zero, suc, ◌≤◌, Bool, true, List, [], ◌∷◌, ◌++◌, length, drop, Ok, refl, sym, ap, subst, arith, length-append}
 use Rattle.outside_world.specs.declared.call.DiskCall.{DiskCall}
-use Rattle.outside_world.specs.Objects.{Objects, at}
-use Rattle.outside_world.specs.Disk.{IsKnown, Elapses}
-use Rattle.outside_world.specs.Entries.{Entries, IsTouched, is_touched, objects_of}
+use Rattle.outside_world.specs.declared.call.DiskCall.TheVariants.{Sync}
+use Rattle.outside_world.specs.Objects.{Objects}
+use Rattle.outside_world.specs.Disk.{Elapses, Settles}
+use Rattle.outside_world.specs.Entries.{Entries, is_touched, objects_of}
 use Rattle.outside_world.specs.Past.{State, Image, HadBeen, memory_view}
-use Rattle.outside_world.proofs.Names.{name_cases}
 
 keeps : (past : List State) (s : State) (c : Objects) → HadBeen past c → HadBeen (past ++ s ∷ []) c
 keeps [] s c had = absurd had
@@ -39,17 +39,11 @@ elapses_kept past later old new a b f h is = subst (λ (l : List State). Elapses
   adds = λ known t c le left. ⊎_elim (λ now. inr now) (λ had. inl (was _ _ (adds (drop t past) old c (subst (λ (l : List State). HadBeen l c) (drop_push t past old le) had)))) left;
 })
 
--- no state joins it, and each image that there was is one still
-pub elapses_grown : (past later : List State) (old new : State) (a b : List (DiskCall × Bool)) (f h : ℕ) → later ≡ past → ((c : Objects) → Image old c → Image new c) → Elapses (memory_view past old a f) (memory_view later new b h)
-elapses_grown past later old new a b f h is grows = subst (λ (l : List State). Elapses (memory_view past old a f) (memory_view l new b h)) (sym is) (record {
-  later = omega arith;
-  keeps = λ t c le left. ⊎_elim (λ now. inl (grows c now)) (λ had. inr had) left;
-  adds = λ known t c le left. ⊎_elim (λ now. inr now) (λ had. inl (inr had)) left;
-})
-
--- a touched name may hold what it held, and more
-pub image_grows : (name : List ℕ) (es fs : Entries) (ts us : List (List ℕ)) → IsTouched name ts us → ((n : List ℕ) → n ≢ name → at (objects_of fs) n ≡ at (objects_of es) n) → (c : Objects) → Image (es, ts) c → Image (fs, us) c
-image_grows name es fs ts us touched others c image = record { same = λ n untouched. ⊎_elim
-    (λ (e : n ≡ name). let touches : is_touched us n ≡ true = ap (is_touched us) e ∙ touched.here in cc)
-    (λ (ne : n ≢ name). image.same n (sym (touched.others n ne) ∙ untouched) ∙ sym (others n ne))
-    (name_cases n name) }
+-- a sync that is done
+pub settles_done : {T : Type 0} (past later : List State) (es fs : Entries) (ts us : List (List ℕ)) (a b : List (DiskCall × Bool)) (f h : ℕ) (x : T) → fs ≡ es → later ≡ past ++ (es, ts) ∷ [] → us ≡ [] → b ≡ a ++ (Sync, true) ∷ []
+    → Settles (Ok x) (memory_view past (es, ts) a f) (memory_view later (fs, us) b h)
+settles_done past later es fs ts us a b f h x same kept none noted = record {
+  kind = record { tells = refl; honest = refl };
+  time = elapses_kept past later (es, ts) (fs, us) a b f h kept;
+  content = λ tells. record { objects = ap objects_of same; ok = λ n. ap (λ (l : List (List ℕ)). is_touched l n) none; err = tt; calls = noted };
+}

@@ -1,4 +1,3 @@
 pub mod ByName
 pub mod Kept
-pub mod MemoryCalls
 pub mod Names

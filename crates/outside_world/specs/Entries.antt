@@ -1,5 +1,5 @@
 -- Objects as a list of entries by name, and touched names as a list by name. The disk in memory keeps both so.
-use Rattle.std.specs.Prelude.{◌≡◌, ◌≢◌, ℕ, Bool, true, not, T, List, [], ◌∷◌, map, filter, Option, Some, None, if◌then◌else◌}
+use Rattle.std.specs.Prelude.{◌≡◌, ◌≢◌, ℕ, Bool, true, not, T, List, [], ◌∷◌, map, filter, Option, Some, if◌then◌else◌}
 use Rattle.std.specs.FinMap.{is_sorted, from_sorted}
 use Rattle.std.specs.List.{list_any}
 use Rattle.std.specs.Cmp.Lexicographic.{slice_cmp}

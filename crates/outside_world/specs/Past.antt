@@ -1,15 +1,16 @@
 -- What a disk in memory means: what it holds now, and what a crash might have left of each state that it has had.
-use Rattle.std.specs.Prelude.{◌≡◌, ◌⊎◌, ℕ, Bool, true, false, List, [], ◌∷◌, ◌++◌, length, drop, Option, Result, Err, OnOk, OnErr, IfOk, IsErrOf, MatchBool, not, if◌then◌else◌}
+use Rattle.std.specs.Prelude.{◌≡◌, ◌⊎◌, ℕ, Bool, true, false, List, [], ◌∷◌, ◌++◌, length, drop, Option, Result, Ok, Err, OnOk, OnErr, IfOk, IsErrOf, MatchBool, not, if◌then◌else◌}
 use Rattle.outside_world.specs.declared.call.DiskCall.{DiskCall}
 use Rattle.outside_world.specs.declared.call.DiskCall.TheVariants.{Sync}
 use Rattle.outside_world.specs.declared.disk.DiskFault.{DiskFault}
-use Rattle.outside_world.specs.declared.disk.DiskFault.TheVariants.{Failed}
+use Rattle.outside_world.specs.declared.disk.DiskFault.TheVariants as fault
 use Rattle.outside_world.specs.declared.memory_disk.MemoryDisk.{MemoryDisk}
+use Rattle.std.proofs.Common.{inl, inr}
 use Rattle.mvcc_keys.specs.declared.bytes.Memory.{Memory}
 use Rattle.outside_world.specs.Disk.{View}
 use Rattle.outside_world.specs.Entries.{Entries, IsSet, IsTouched, objects_of, is_touched}
 use Rattle.outside_world.specs.Numbered.{next_call, is_failing}
-use Rattle.outside_world.specs.Objects.{Objects, MayLeave, at}
+use Rattle.outside_world.specs.Objects.{Objects, MayLeave}
 
 -- the entries by name, and the touched names
 abbrev pub State : Type 0
@@ -39,6 +40,21 @@ memory_view past now calls faults = record {
 abbrev pub view_of : MemoryDisk → View
 view_of d = memory_view d.past.items (d.entries.items, d.touched.items) d.calls.items d.faults
 
+none_left : (past : List State) (c : Objects) → HadBeen (drop (length past) past) c → ⊥
+none_left [] c had = had
+none_left (s ∷ past) c had = none_left past c had
+
+-- since the last state was kept there is only this one
+pub only_state : (past : List State) (now : State) (c : Objects) → Image now c ⊎ HadBeen (drop (length past) past) c → Image now c
+only_state past now c (inl here) = here
+only_state past now c (inr had) = absurd (none_left past c had)
+
+-- the names that get was called with, after one more call
+abbrev pub logged_get : {T : Type 0} → Result T DiskFault → List ℕ → List (List ℕ) → List (List ℕ)
+logged_get (Err fault.Memory) name gets = gets
+logged_get (Err fault.Failed) name gets = gets ++ name ∷ []
+logged_get (Ok found) name gets = gets ++ name ∷ []
+
 -- whether the next call fails
 abbrev pub fails_next : MemoryDisk → Bool
 fails_next d = is_failing d.stop d.fails.items (next_call d.number)
@@ -49,7 +65,7 @@ pub record IsCounted {T : Type 0} (result : Result T DiskFault) (old new : Memor
   pub stop : new.stop ≡ old.stop
   pub number : new.number ≡ next_call old.number
   pub ok : OnOk result (fails_next old ≡ false)
-  pub failed : IsErrOf result Failed → fails_next old ≡ true
+  pub failed : IsErrOf result fault.Failed → fails_next old ≡ true
 
 -- a disk that was just made
 pub record IsFresh (fails : List ℕ) (stop : Option ℕ) (d : MemoryDisk) : Type 0 where

@@ -10,7 +10,10 @@ use mvcc_keys::{Blob, Memory, Text};
 use std::alloc::Global;
 
 /// A copy of each entry.
-pub(crate) fn copy_entries(alloc: Global, entries: &[(Text, Blob)]) -> Result<Vec<(Text, Blob)>, Memory>
+pub(crate) fn copy_entries(
+    alloc: Global,
+    entries: &[(Text, Blob)],
+) -> Result<Vec<(Text, Blob)>, Memory>
     ensures { IfOk result (λ all. all.items ≡ entries.now) }
 {
     let mut all = Vec::with_capacity(alloc, entries.len())?;
@@ -44,7 +47,11 @@ pub(crate) fn names_of(alloc: Global, entries: &[(Text, Blob)]) -> Result<Vec<Te
 }
 
 /// A copy of the bytes under a name.
-pub(crate) fn bytes_of(alloc: Global, entries: &[(Text, Blob)], name: &Text) -> Result<Option<Vec<u8>>, Memory>
+pub(crate) fn bytes_of(
+    alloc: Global,
+    entries: &[(Text, Blob)],
+    name: &Text,
+) -> Result<Option<Vec<u8>>, Memory>
     requires { T (in_order entries.now) }
     ensures { IfOk result (λ found. option_map (λ v. v.items) found ≡ at (objects_of entries.now) name.now) }
 {
@@ -89,7 +96,10 @@ pub(crate) fn put_entry(entries: &mut Vec<(Text, Blob)>, name: Text, bytes: Blob
 }
 
 /// These objects by name. Of two with one name the later counts.
-pub(crate) fn sort_entries(alloc: Global, objects: Vec<(Text, Blob)>) -> Result<Vec<(Text, Blob)>, Memory>
+pub(crate) fn sort_entries(
+    alloc: Global,
+    objects: Vec<(Text, Blob)>,
+) -> Result<Vec<(Text, Blob)>, Memory>
     ensures ordered { IfOk result (λ es. T (in_order es.items)) }
     ensures objects { IfOk result (λ es. (n : List ℕ) → at (objects_of es.items) n ≡ last_value n objects.items None) }
 {

@@ -9,6 +9,7 @@ mod memory_disk;
 mod next_bytes;
 mod standard;
 mod sure;
+mod sure_disk;
 mod traits;
 
 pub use call::DiskCall;
@@ -17,6 +18,7 @@ pub use memory::{MemorySink, MemorySource};
 pub use memory_disk::MemoryDisk;
 pub use standard::{StdSink, StdSource};
 pub use sure::{SureSink, SureSource, sure_streams_never_fail};
+pub use sure_disk::{SureDisk, sure_disks_never_fail};
 pub use traits::{Failed, Sink, Source};
 
 #[cfg(test)]

@@ -6,6 +6,7 @@ ghost use Rattle.outside_world.specs.Numbered.{next_call, is_failing};
 use crate::entries::{
     add_name, bytes_of, copy_entries, copy_names, names_of, put_entry, remove_entry, sort_entries,
 };
+use crate::traits::count_failure;
 use crate::{Disk, DiskCall, DiskFault};
 use mvcc_keys::{Blob, Memory, Text};
 use std::alloc::Global;
@@ -149,7 +150,14 @@ impl MemoryDisk {
         let bytes = Blob::copy_of(self.alloc, bytes)?;
         let call = DiskCall::Put(name.copy(self.alloc)?);
         self.entries.reserve(1)?;
-        note(self.alloc, &mut self.touched, &mut self.calls, name, call, !fails)?;
+        note(
+            self.alloc,
+            &mut self.touched,
+            &mut self.calls,
+            name,
+            call,
+            !fails,
+        )?;
         if fails {
             return Ok(false);
         }
@@ -162,7 +170,14 @@ impl MemoryDisk {
     {
         let fails = fails_now(&mut self.number, &self.stop, &self.fails);
         let call = DiskCall::Removal(name.copy(self.alloc)?);
-        note(self.alloc, &mut self.touched, &mut self.calls, name, call, !fails)?;
+        note(
+            self.alloc,
+            &mut self.touched,
+            &mut self.calls,
+            name,
+            call,
+            !fails,
+        )?;
         if fails {
             return Ok(false);
         }
@@ -186,5 +201,92 @@ impl MemoryDisk {
         self.past.push(kept).unwrap();
         self.touched.clear();
         Ok(true)
+    }
+}
+
+impl Disk for MemoryDisk {
+    ghost use Rattle.std.specs.Prelude.{◌≡◌, IfOk, Some, None, option_map};
+    ghost use Rattle.std.specs.FinMap.{keys};
+    ghost use Rattle.std.proofs.Common.{inl};
+    ghost use Rattle.outside_world.specs.declared.call.DiskCall.TheVariants.{Put, Removal};
+    ghost use Rattle.outside_world.specs.Disk.{OnlyReads, Changes, Settles, DiskHasCause};
+    ghost use Rattle.outside_world.specs.Objects.{at};
+    ghost use Rattle.outside_world.specs.Past.{view_of, logged_get, only_state, IsCounted};
+
+    ghost view = { view_of };
+
+    ghost counts_now = { λ d t image known le now. inl now };
+
+    ghost only_now = { λ d known image left. only_state d.past.items (d.entries.items, d.touched.items) image left };
+
+    fn names(&mut self, alloc: Global) -> Result<Vec<Text>, DiskFault>
+        ensures names { IfOk result (λ names. names.items ≡ keys (view_of self.old).objects) }
+        ensures reads { OnlyReads (view_of self.old) (view_of self.new) }
+        ensures cause { DiskHasCause self.old.faults self.new.faults result }
+        ensures counted { IsCounted result self.old self.new }
+        ensures gets { self.new.gets.items ≡ self.old.gets.items }
+    {
+        if fails_now(&mut self.number, &self.stop, &self.fails) {
+            count_failure(&mut self.faults);
+            return Err(DiskFault::Failed);
+        }
+        Ok(names_of(alloc, &self.entries)?)
+    }
+
+    fn get(&mut self, alloc: Global, name: &Text) -> Result<Option<Vec<u8>>, DiskFault>
+        ensures bytes { IfOk result (λ found. option_map (λ bytes. bytes.items) found ≡ at (view_of self.old).objects name.now) }
+        ensures reads { OnlyReads (view_of self.old) (view_of self.new) }
+        ensures cause { DiskHasCause self.old.faults self.new.faults result }
+        ensures counted { IsCounted result self.old self.new }
+        ensures gets { self.new.gets.items ≡ logged_get result name.now self.old.gets.items }
+    {
+        let fails = fails_now(&mut self.number, &self.stop, &self.fails);
+        let asked = name.copy(self.alloc)?;
+        let found = bytes_of(alloc, &self.entries, name)?;
+        self.gets.push(asked)?;
+        if fails {
+            count_failure(&mut self.faults);
+            return Err(DiskFault::Failed);
+        }
+        Ok(found)
+    }
+
+    fn put(&mut self, name: &Text, bytes: &[u8]) -> Result<(), DiskFault>
+        ensures changes { Changes name.now (Some bytes.now) (Put name.now) result (view_of self.old) (view_of self.new) }
+        ensures cause { DiskHasCause self.old.faults self.new.faults result }
+        ensures counted { IsCounted result self.old self.new }
+        ensures gets { self.new.gets.items ≡ self.old.gets.items }
+    {
+        if self.put_object(name, bytes)? {
+            return Ok(());
+        }
+        count_failure(&mut self.faults);
+        Err(DiskFault::Failed)
+    }
+
+    fn remove(&mut self, name: &Text) -> Result<(), DiskFault>
+        ensures changes { Changes name.now None (Removal name.now) result (view_of self.old) (view_of self.new) }
+        ensures cause { DiskHasCause self.old.faults self.new.faults result }
+        ensures counted { IsCounted result self.old self.new }
+        ensures gets { self.new.gets.items ≡ self.old.gets.items }
+    {
+        if self.remove_object(name)? {
+            return Ok(());
+        }
+        count_failure(&mut self.faults);
+        Err(DiskFault::Failed)
+    }
+
+    fn sync(&mut self) -> Result<(), DiskFault>
+        ensures settles { Settles result (view_of self.old) (view_of self.new) }
+        ensures cause { DiskHasCause self.old.faults self.new.faults result }
+        ensures counted { IsCounted result self.old self.new }
+        ensures gets { self.new.gets.items ≡ self.old.gets.items }
+    {
+        if self.settle()? {
+            return Ok(());
+        }
+        count_failure(&mut self.faults);
+        Err(DiskFault::Failed)
     }
 }

@@ -1,5 +1,5 @@
 use Rattle.std.proofs.lemmas.Grind.{common_steps}
-use Rattle.std.proofs.Common.{arith, ◌≡◌, Some, None, sym, ◌∙◌, ℕ, List, Option}
+use Rattle.std.proofs.Common.{arith, ◌≡◌, Some, None, sym, ◌∙◌}
 use Rattle.std.specs.FinMap.{find}
 use Rattle.std.specs.Cmp.Lexicographic.{slice_cmp}
 use Rattle.std.specs.Ordering.{nat_cmp}

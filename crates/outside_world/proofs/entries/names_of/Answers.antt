@@ -1,5 +1,5 @@
 use Rattle.std.proofs.lemmas.Grind.{common_steps}
-use Rattle.std.proofs.Common.{arith, ◌≡◌, sym, ◌∙◌, map, ℕ, List}
+use Rattle.std.proofs.Common.{arith, ◌≡◌, sym, ◌∙◌, map}
 use Rattle.outside_world.proofs.ByName.{keys_of}
 use Rattle.outside_world.proofs.entries.names_of.Goals as goal
 
