@@ -99,3 +99,6 @@ pub record DiskHasCause {T : Type 0} (before now : ℕ) (result : Result T DiskF
   pub failed : IsErrOf result Failed → Rose before now
   pub kept : OnOk result (now ≡ before)
   pub memory : IsErrOf result Memory → now ≡ before
+
+pub never_known : false ≡ true → ⊥
+never_known e = cc

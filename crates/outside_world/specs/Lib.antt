@@ -5,4 +5,5 @@ pub mod Moments
 pub mod Numbered
 pub mod Objects
 pub mod Past
+pub mod Replacing
 pub mod Told

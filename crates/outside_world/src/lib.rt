@@ -4,9 +4,11 @@
 mod call;
 mod disk;
 mod entries;
+mod folder;
 mod memory;
 mod memory_disk;
 mod next_bytes;
+mod replacing;
 mod standard;
 mod sure;
 mod sure_disk;
@@ -14,6 +16,7 @@ mod traits;
 
 pub use call::DiskCall;
 pub use disk::{Disk, DiskFault};
+pub use folder::FolderDisk;
 pub use memory::{MemorySink, MemorySource};
 pub use memory_disk::MemoryDisk;
 pub use standard::{StdSink, StdSource};
