@@ -1,5 +1,5 @@
 -- The calls of `replace` one by one.
-use Rattle.std.proofs.Common.{◌≡◌, ◌≢◌, ℕ, true, List, Option, Some, Result, Ok, refl, sym, ◌∙◌}
+use Rattle.std.proofs.Common.{◌≡◌, ℕ, true, List, Option, Some, Result, Ok, refl, sym, ◌∙◌}
 use Rattle.outside_world.specs.declared.call.DiskCall.{DiskCall}
 use Rattle.outside_world.specs.declared.disk.DiskFault.{DiskFault}
 use Rattle.outside_world.specs.Disk.{View, IsImage, Changes, Settles}

@@ -1,5 +1,5 @@
 -- What the caller that tests the disk's clauses promises.
-use Rattle.std.specs.Prelude.{◌≡◌, ◌≢◌, ℕ, false, List, [], ◌∷◌, Some}
+use Rattle.std.specs.Prelude.{◌≡◌, ◌≢◌, ℕ, List, [], ◌∷◌, Some}
 use Rattle.outside_world.specs.Disk.{View, IsKnown, IsImage}
 use Rattle.outside_world.specs.Moments.{InEachImage}
 use Rattle.outside_world.specs.Objects.{Objects, at}

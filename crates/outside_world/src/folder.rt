@@ -126,7 +126,10 @@ fn sync_names<R: Files>(rt: &R, alloc: Global, names: &[Text]) -> Result<(), Dis
     Ok(())
 }
 
-fn sync_entry<R: Files + Alloc + Clone + Drop>(rt: &R, entry: io::Result<DirEntry<R, R::A>>) -> io::Result<()> {
+fn sync_entry<R: Files + Alloc + Clone + Drop>(
+    rt: &R,
+    entry: io::Result<DirEntry<R, R::A>>,
+) -> io::Result<()> {
     match entry {
         Ok(entry) if entry.file_type()?.is_file() => sync_path(rt, entry.path()),
         Ok(_) => Ok(()),
@@ -148,7 +151,10 @@ fn sync_all_files<R: Files + Alloc + Clone + Drop>(rt: &R) -> io::Result<()> {
 }
 
 /// The name of an entry, unless it is a folder.
-fn entry_name<R: Files + Alloc + Clone + Drop>(alloc: Global, entry: &DirEntry<R, R::A>) -> io::Result<Option<String>> {
+fn entry_name<R: Files + Alloc + Clone + Drop>(
+    alloc: Global,
+    entry: &DirEntry<R, R::A>,
+) -> io::Result<Option<String>> {
     if entry.file_type()?.is_dir() {
         return Ok(None);
     }
@@ -199,7 +205,11 @@ impl<'a, R: Files + Alloc + Clone + Drop> FolderDisk<'a, R> {
         ensures faults { self.new.faults ≡ self.old.faults }
         ensures memory { IfErr result (λ e. e ≡ DiskFault.Memory) }
     {
-        if self.written.iter().any(|other| other.as_str() == name.as_str()) {
+        if self
+            .written
+            .iter()
+            .any(|other| other.as_str() == name.as_str())
+        {
             return Ok(());
         }
         self.written.push(name.copy(self.alloc)?)?;

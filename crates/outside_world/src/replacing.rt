@@ -9,7 +9,12 @@ use mvcc_keys::Text;
 
 /// Puts the bytes, and once they are on the disk opens a gate over them. A crash at any moment
 /// leaves the gate as it was, or open over these very bytes.
-fn replace<D: Disk>(disk: &mut D, name: &Text, bytes: &[u8], gate: &Text) -> Result<(), DiskFault>
+pub(crate) fn replace<D: Disk>(
+    disk: &mut D,
+    name: &Text,
+    bytes: &[u8],
+    gate: &Text,
+) -> Result<(), DiskFault>
     ensures moments { MayReplace name.now gate.now (D.view disk.old) →
         LeavesOnly (D.view disk.old) (D.view disk.new) (IsOldOrNew name.now bytes.now gate.now (D.view disk.old)) }
     ensures done { MayReplace name.now gate.now (D.view disk.old) → OnOk result (InEachImage (D.view disk.new) (IsNew name.now bytes.now gate.now)) }

@@ -1,5 +1,5 @@
 use Rattle.std.proofs.Common.{inl, inr, refl}
-use Rattle.outside_world.proofs.Runs.{Run, only_put, only_sync, only_then}
+use Rattle.outside_world.proofs.Runs.{only_put, only_sync, only_then}
 use Rattle.outside_world.proofs.ReplacingSteps.{begun, after_put, after_sync, stored, after_gate, after_last}
 use Rattle.outside_world.proofs.replacing.replace.Goals as goal
 
