@@ -1,5 +1,5 @@
 -- Rows as commands give them and as scans show them.
-use Rattle.std.specs.Prelude.{ℕ, ◌+◌, Bool, true, false, not, ◌||◌, ◌==◌, List, [], ◌∷◌, map, length, Option, Some, None, unwrap_or, option_map, if◌then◌else◌}
+use Rattle.std.specs.Prelude.{ℕ, ◌+◌, Bool, true, false, not, ◌||◌, ◌==◌, List, [], ◌∷◌, ◌++◌, map, length, Option, Some, None, option_map, if◌then◌else◌}
 use Rattle.std.specs.List.{list_any, find}
 use Rattle.mvcc_keys.specs.Times.{Time}
 use Rattle.row_codec.specs.declared.rows.Kind.{Kind}
@@ -57,21 +57,29 @@ misfit_from key n (c ∷ cs) (x ∷ xs) = if fits key c x then misfit_from key (
 abbrev pub wrong_column : Schema → List Datum → Option ℕ
 wrong_column d row = if length row == length d.columns then misfit_from d.key_columns 1 d.columns row else Some 0
 
--- the value of the column of an id
-abbrev pub value_in : List Column → List Datum → ℕ → Datum
-value_in [] row id = Null
-value_in (c ∷ cs) [] id = Null
-value_in (c ∷ cs) (x ∷ xs) id = if c.id == id then x else value_in cs xs id
+-- the value of the column of an id, in a row of these columns
+abbrev pub value_in : List Column → List Datum → ℕ → Option Datum
+value_in [] row id = None
+value_in (c ∷ cs) [] id = None
+value_in (c ∷ cs) (x ∷ xs) id = if c.id == id then Some x else value_in cs xs id
+
+abbrev pub or_null : Option Datum → Datum
+or_null None = Null
+or_null (Some x) = x
 
 -- the values of the key columns, in key order
 abbrev pub key_of : Schema → List Datum → Key
-key_of d row = map (value_in d.columns row) d.key_columns
+key_of d row = map (λ id. or_null (value_in d.columns row id)) d.key_columns
 
--- the values that are stored beside the key, by column: none for NULL
-abbrev pub cells_in : List ℕ → List Column → List Datum → List Cell
+-- the cell of a value, unless it stands in the key or is NULL
+abbrev pub cell_in : List ℕ → Column → Datum → Cells
+cell_in key c x = if has_id c.id key || is_null x then [] else record { column = c.id; datum = x } ∷ []
+
+-- the values that are stored beside the key, by column
+abbrev pub cells_in : List ℕ → List Column → List Datum → Cells
 cells_in key [] row = []
 cells_in key (c ∷ cs) [] = []
-cells_in key (c ∷ cs) (x ∷ xs) = if has_id c.id key || is_null x then cells_in key cs xs else record { column = c.id; datum = x } ∷ cells_in key cs xs
+cells_in key (c ∷ cs) (x ∷ xs) = cell_in key c x ++ cells_in key cs xs
 
 -- the fact of a row that is put at a time
 abbrev pub put_of : Schema → Time → List Datum → RowFact
@@ -88,9 +96,14 @@ key_value (k ∷ ks) (x ∷ xs) id = if k == id then Some x else key_value ks xs
 abbrev pub cell_value : List Cell → ℕ → Option Datum
 cell_value cells id = option_map (λ (c : Cell). c.datum) (find (λ (c : Cell). c.column == id) cells)
 
--- what a column shows: from the key, else from the cells, else NULL
+-- the value in the key or, outside the key, that of the cell, if there is one
+abbrev pub stored_value : Option Datum → Option Datum → Option Datum
+stored_value None cell = cell
+stored_value (Some x) cell = Some x
+
+-- what a column shows: NULL where nothing is stored
 abbrev pub shown_value : Schema → RowItem → Column → Datum
-shown_value d item c = unwrap_or (key_value d.key_columns item.key c.id) (unwrap_or (cell_value item.value c.id) Null)
+shown_value d item c = or_null (stored_value (key_value d.key_columns item.key c.id) (cell_value item.value c.id))
 
 -- the item in the columns of a descriptor
 abbrev pub shown_row : Schema → RowItem → List Datum

@@ -1,3 +1,9 @@
 pub mod Causes
+pub mod Disk
+pub mod Entries
+pub mod Moments
 pub mod Numbered
+pub mod Objects
+pub mod Past
+pub mod Replacing
 pub mod Told

@@ -15,7 +15,7 @@ pub enum Answer {
     Plain,
     ClockSet { now: Hlc },
     TableMade { table: u32, at: Hlc },
-    RowsWritten { rows: u32, at: Hlc },
+    RowsWritten { rows: usize, at: Hlc },
     RowsShown { rows: Items<Row> },
 }
 

@@ -19,10 +19,10 @@ pub enum Refusal {
     /// The least number of a rule that the new table breaks.
     BadSchema { which: u8 },
     /// Row and place of the first value that doesn't fit, from 1; column 0: a wrong count of values.
-    WrongRow { row: u32, column: u32 },
+    WrongRow { row: usize, column: usize },
     Future { now: Hlc },
     /// The row, from 1, whose key came earlier in the list.
-    DuplicateKey { row: u32 },
+    DuplicateKey { row: usize },
     TooManyTables,
     TooManyEvents,
     /// What isn't built yet: a row with more than 1,024 bytes of texts and bytes.

@@ -43,6 +43,16 @@ impl Datum {
     }
 }
 
+fn copy_all(alloc: Global, values: &[Datum]) -> Result<Vec<Datum>, Memory>
+    ensures { IfOk result (λ v. v.items ≡ values.now) }
+{
+    let mut copies = Vec::new(alloc);
+    for value in values {
+        copies.push(value.copy(alloc)?)?;
+    }
+    Ok(copies)
+}
+
 /// A row as a command gives it or a scan shows it, or a key: the values of its columns in order.
 #[derive(Debug, Drop)]
 pub struct Row {
@@ -69,6 +79,14 @@ impl Row {
         ensures { result.now ≡ self.now }
     {
         self.values.as_slice()
+    }
+
+    pub fn copy(&self, alloc: Global) -> Result<Row, Memory>
+        ensures { IfOk result (λ r. r ≡ self.now) }
+    {
+        Ok(Row {
+            values: copy_all(alloc, self.values.as_slice())?,
+        })
     }
 }
 

@@ -1,0 +1,15 @@
+//! Laws of forms and of lines.
+ghost use Rattle.std.specs.Prelude.{Bool, List, ℕ};
+ghost use Rattle.script_grammar.specs.Columns.{IsExact};
+ghost use Rattle.command_lang.specs.Forms.{command};
+ghost use Rattle.command_lang.specs.Lines.{reading, Means};
+
+/// A law: what is read of tokens from the left is what the forms say.
+pub fn forms_are_exact()
+    ensures { (first : Bool) → IsExact (command first) }
+{}
+
+/// A law: a reading says of its line what the forms say.
+pub fn readings_are_exact()
+    ensures { (first : Bool) (line : List ℕ) → Means first line (reading first line) }
+{}

@@ -1,0 +1,16 @@
+//! Lines of a script, and the commands that they ask for.
+#![tactic(auto)]
+
+mod command;
+mod faults;
+mod forms;
+mod laws;
+mod reading;
+
+pub use command::{Command, Tbl};
+pub use faults::LineFault;
+pub use laws::{forms_are_exact, readings_are_exact};
+pub use reading::parse_line;
+
+#[cfg(test)]
+mod tests;

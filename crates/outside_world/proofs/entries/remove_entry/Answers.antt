@@ -1,0 +1,10 @@
+use Rattle.std.proofs.Common.{rules}
+use Rattle.std.proofs.lemmas.Fn.{filter_same}
+use Rattle.outside_world.proofs.ByName.{set_removed}
+use Rattle.outside_world.proofs.entries.remove_entry.Goals as goal
+
+pub returns-clause-items : goal.returns-clause-items
+returns-clause-items c = filter_same _ _ _ (λ x b f' k. search rules) _ _ c.retain.ensures.filtered
+
+pub returns-clause-set : goal.returns-clause-set
+returns-clause-set c = set_removed _ _ _ c.requires (returns-clause-items c)

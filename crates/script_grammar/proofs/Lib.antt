@@ -1,0 +1,7 @@
+pub mod Exactness
+pub mod Families
+pub mod Lexing
+pub mod PartsExact
+pub mod Repeating
+pub mod Rights
+pub mod WordNames

@@ -1,0 +1,218 @@
+-- The parts that forms of lines share.
+use Rattle.std.specs.Prelude.{ℕ, ℤ, pos, negsuc, Bool, true, false, List, ◌∷◌, codes, Option, Some, None, if◌then◌else◌, ◌||◌, is_some}
+use Rattle.std.specs.Str.{bytes_eq}
+use Rattle.mvcc_keys.specs.Times.{Time}
+use Rattle.mvcc_keys.specs.TimeTexts.{read_time}
+use Rattle.row_codec.specs.declared.rows.Datum.{Datum}
+use Rattle.row_codec.specs.declared.rows.Datum.TheVariants.{Int, Bool as Truth, Null, Text as TextDatum, Bytes as BytesDatum}
+use Rattle.row_codec.specs.declared.rows.Kind.{Kind}
+use Rattle.row_codec.specs.declared.rows.Kind.TheVariants.{Int as IntKind, Text as TextKind, Bytes as BytesKind, Bool as BoolKind}
+use Rattle.script_grammar.specs.Grammar.{Form, ◌>>=◌, ◌>>◌, give, one, word, mark, is_word, is_mark, repeated, listed, either, maybe_one, ending, ◌making◌, ◌or◌}
+use Rattle.script_grammar.specs.Columns.{IsExact}
+use Rattle.script_grammar.specs.declared.token.Token.{Token}
+use Rattle.script_grammar.specs.declared.token.Token.TheVariants.{Word, Number, Text, Bytes, Mark, Bad}
+
+-- ---- one token
+
+-- any word
+abbrev pub name_of_token : Token → Option (List ℕ)
+name_of_token (Word v) = Some v
+name_of_token (Number n) = None
+name_of_token (Text s) = None
+name_of_token (Bytes s) = None
+name_of_token (Mark b) = None
+name_of_token Bad = None
+
+abbrev pub is_reserved : List ℕ → Bool
+is_reserved w = bytes_eq w (codes "primary") || bytes_eq w (codes "references")
+
+-- a word that can name a new column
+abbrev pub new_name_of : Token → Option (List ℕ)
+new_name_of (Word v) = if is_reserved v then None else Some v
+new_name_of (Number n) = None
+new_name_of (Text s) = None
+new_name_of (Bytes s) = None
+new_name_of (Mark b) = None
+new_name_of Bad = None
+
+abbrev pub at_least_0 : ℤ → Option ℕ
+at_least_0 (pos n) = Some n
+at_least_0 (negsuc n) = None
+
+-- a number that is not negative
+abbrev pub count_of : Token → Option ℕ
+count_of (Word v) = None
+count_of (Number n) = at_least_0 n
+count_of (Text s) = None
+count_of (Bytes s) = None
+count_of (Mark b) = None
+count_of Bad = None
+
+-- INT | STRING | BYTES | BOOL
+abbrev pub kind_named : List ℕ → Option Kind
+kind_named w =
+    if bytes_eq w (codes "int") then Some IntKind
+    else (if bytes_eq w (codes "string") then Some TextKind
+    else (if bytes_eq w (codes "bytes") then Some BytesKind
+    else (if bytes_eq w (codes "bool") then Some BoolKind else None)))
+
+abbrev pub kind_of : Token → Option Kind
+kind_of (Word v) = kind_named v
+kind_of (Number n) = None
+kind_of (Text s) = None
+kind_of (Bytes s) = None
+kind_of (Mark b) = None
+kind_of Bad = None
+
+-- TRUE | FALSE | NULL
+abbrev pub datum_named : List ℕ → Option Datum
+datum_named w =
+    if bytes_eq w (codes "true") then Some (Truth true)
+    else (if bytes_eq w (codes "false") then Some (Truth false)
+    else (if bytes_eq w (codes "null") then Some Null else None))
+
+-- a value: number | text | bytes | TRUE | FALSE | NULL
+abbrev pub datum_of : Token → Option Datum
+datum_of (Word v) = datum_named v
+datum_of (Number n) = Some (Int n)
+datum_of (Text s) = Some (TextDatum s)
+datum_of (Bytes s) = Some (BytesDatum s)
+datum_of (Mark b) = None
+datum_of Bad = None
+
+-- a text that spells a time
+abbrev pub time_of : Token → Option Time
+time_of (Word v) = None
+time_of (Number n) = None
+time_of (Text s) = read_time s
+time_of (Bytes s) = None
+time_of (Mark b) = None
+time_of Bad = None
+
+-- ASC | DESC: whether the column descends
+abbrev pub order_named : List ℕ → Option Bool
+order_named w = if bytes_eq w (codes "asc") then Some false else (if bytes_eq w (codes "desc") then Some true else None)
+
+abbrev pub order_of : Token → Option Bool
+order_of (Word v) = order_named v
+order_of (Number n) = None
+order_of (Text s) = None
+order_of (Bytes s) = None
+order_of (Mark b) = None
+order_of Bad = None
+
+abbrev pub name : Form (List ℕ)
+name = one name_of_token
+
+-- ---- tables and rows
+
+-- database . table
+unfoldable pub table : Form (List ℕ × List ℕ)
+table = do
+  database ← name
+  mark 46
+  table_name ← name
+  give (database, table_name)
+
+-- ( value {, value} )
+unfoldable pub row : Form (List Datum)
+row = do
+  mark 40
+  values ← listed (one datum_of)
+  mark 41
+  give values
+
+-- AS OF SYSTEM TIME time
+unfoldable pub time_given : Form (Option Time)
+time_given = do
+  word (codes "as")
+  word (codes "of")
+  word (codes "system")
+  word (codes "time")
+  t ← one time_of
+  give (Some t)
+
+-- [AS OF SYSTEM TIME time]
+unfoldable pub asof : Form (Option Time)
+asof = either (is_word (codes "as")) time_given (give None)
+
+-- ---- columns
+
+-- name type
+unfoldable pub column : Form (List ℕ × Kind)
+column = do
+  n ← one new_name_of
+  k ← one kind_of
+  give (n, k)
+
+unfoldable pub column_and_comma : Form (List ℕ × Kind)
+column_and_comma = do
+  c ← column
+  mark 44
+  give c
+
+abbrev pub starts_column : Token → Bool
+starts_column t = is_some (new_name_of t)
+
+-- `col {, col} ,`, with each comma read at the end of its column
+unfoldable pub columns : Form (List (List ℕ × Kind))
+columns = do
+  first ← column_and_comma
+  others ← repeated starts_column column_and_comma
+  give (first ∷ others)
+
+-- name [ASC | DESC]
+unfoldable pub key_column : Form (List ℕ × Bool)
+key_column = do
+  n ← name
+  down ← maybe_one order_of false
+  give (n, down)
+
+-- PRIMARY KEY ( name [ASC | DESC] {, name [ASC | DESC]} )
+unfoldable pub key : Form (List (List ℕ × Bool))
+key = do
+  word (codes "primary")
+  word (codes "key")
+  mark 40
+  names ← listed key_column
+  mark 41
+  give names
+
+-- , REFERENCES tbl
+unfoldable pub reference : Form (List ℕ × List ℕ)
+reference = do
+  mark 44
+  word (codes "references")
+  table
+
+abbrev pub references : Form (List (List ℕ × List ℕ))
+references = repeated (is_mark 44) reference
+
+-- row {, row}
+abbrev pub rows : Form (List (List Datum))
+rows = listed row
+
+-- ---- the law of parts
+
+-- lines of one part alone, and those of the columns, the key and the references of a table
+abbrev pub columns_alone : Form (List (List ℕ × Kind) × List (List ℕ × Bool) × List (List ℕ × List ℕ))
+columns_alone = do
+  cs ← columns
+  ks ← key
+  rs ← references
+  ending (cs, ks, rs)
+
+-- one of two forms with unlike first words
+abbrev pub choice_alone : Form (List ℕ × List ℕ)
+choice_alone = (word (codes "key") >> (table >>= (λ t. ending t))) or (word (codes "references") >> (table >>= (λ t. ending t))) making (λ t. t)
+
+-- they are read exactly as they are spelled
+pub record PartsAreExact : Type 0 where
+  pub a_name : IsExact (name >>= (λ n. ending n))
+  pub a_count : IsExact (one count_of >>= (λ n. ending n))
+  pub a_table : IsExact (table >>= (λ t. ending t))
+  pub some_rows : IsExact (rows >>= (λ rs. ending rs))
+  pub a_past_time : IsExact (asof >>= (λ t. ending t))
+  pub a_column : IsExact (column >>= (λ c. ending c))
+  pub some_columns : IsExact columns_alone
+  pub a_choice : IsExact choice_alone
