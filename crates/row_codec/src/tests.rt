@@ -39,74 +39,43 @@ fn is_spelled(
     Ok(reads && out.as_slice() == spelling && check_row_key(spelling, table, &kinds))
 }
 
+/// A value of a kind.
+fn sample(alloc: Global, kind: Kind) -> Result<Datum, Memory> {
+    match kind {
+        Kind::Int | Kind::IntDown => Ok(Datum::Int(7)),
+        Kind::Text | Kind::TextDown => text(alloc, "ab"),
+        Kind::Bytes | Kind::BytesDown => bytes(alloc, &[0xff, 0]),
+        Kind::Bool | Kind::BoolDown => Ok(Datum::Bool(true)),
+    }
+}
+
 #[test]
 fn keys(rt: HostRuntime) -> Result<(), Fail> {
-    let a = rt.alloc();
-    let ab = text(a, "ab").expect(&rt, "memory");
-    let one = text(a, "a").expect(&rt, "memory");
-    let ends = bytes(a, &[0xff, 0]).expect(&rt, "memory");
-    assert_eq!(rt;
-        is_spelled(a, 100, Kind::Int, Datum::Int(7), &[0xec, 0x89, 0x8f, 0x88]),
-        Ok(true)
-    );
-    assert_eq!(rt;
-        is_spelled(
-            a,
-            100,
-            Kind::IntDown,
-            Datum::Int(7),
-            &[0xec, 0x89, 0x87, 0xf8, 0x88]
-        ),
-        Ok(true)
-    );
-    assert_eq!(rt;
-        is_spelled(
-            a,
-            100,
-            Kind::Bool,
-            Datum::Bool(true),
-            &[0xec, 0x89, 0x89, 0x88]
-        ),
-        Ok(true)
-    );
-    assert_eq!(rt;
-        is_spelled(
-            a,
-            100,
-            Kind::BoolDown,
-            Datum::Bool(true),
-            &[0xec, 0x89, 0x87, 0xfe, 0x88]
-        ),
-        Ok(true)
-    );
-    assert_eq!(rt;
-        is_spelled(
-            a,
-            110,
-            Kind::Text,
-            ab,
-            &[0xf6, 0x6e, 0x89, 0x12, 0x61, 0x62, 0, 1, 0x88]
-        ),
-        Ok(true)
-    );
-    assert_eq!(rt;
-        is_spelled(
-            a,
-            100,
+    let cases: [(Kind, &[u8]); 8] = [
+        (Kind::Int, &[0xec, 0x89, 0x8f, 0x88]),
+        (Kind::IntDown, &[0xec, 0x89, 0x87, 0xf8, 0x88]),
+        (Kind::Text, &[0xec, 0x89, 0x12, 0x61, 0x62, 0, 1, 0x88]),
+        (
             Kind::TextDown,
-            one,
-            &[0xec, 0x89, 0x13, 0x9e, 0xff, 0xfe, 0x88]
+            &[0xec, 0x89, 0x13, 0x9e, 0x9d, 0xff, 0xfe, 0x88],
         ),
-        Ok(true)
-    );
-    assert_eq!(rt;
-        is_spelled(
-            a,
-            100,
+        (Kind::Bytes, &[0xec, 0x89, 0x12, 0xff, 0, 0xff, 0, 1, 0x88]),
+        (
             Kind::BytesDown,
-            ends,
-            &[0xec, 0x89, 0x13, 0, 0xff, 0, 0xff, 0xfe, 0x88]
+            &[0xec, 0x89, 0x13, 0, 0xff, 0, 0xff, 0xfe, 0x88],
         ),
+        (Kind::Bool, &[0xec, 0x89, 0x89, 0x88]),
+        (Kind::BoolDown, &[0xec, 0x89, 0x87, 0xfe, 0x88]),
+    ];
+    let alloc = rt.alloc();
+    for (kind, spelling) in cases.iter() {
+        let value = sample(alloc, *kind).expect(&rt, "memory");
+        assert_eq!(rt; is_spelled(alloc, 100, *kind, value, *spelling), Ok(true));
+    }
+    let value = sample(alloc, Kind::Text).expect(&rt, "memory");
+    let spelling = [0xf6, 0x6e, 0x89, 0x12, 0x61, 0x62, 0, 1, 0x88];
+    assert_eq!(rt;
+        is_spelled(alloc, 110, Kind::Text, value, &spelling),
         Ok(true)
     );
     Ok(())
