@@ -1,12 +1,11 @@
 -- Row keys are read as they are written.
-use Rattle.std.proofs.Common.{◌≡◌, ℕ, ℤ, suc, pos, negsuc, ◌-◌, ◌<◌, ◌≤◌, ◌^◌, Bool, true, false, List, [], ◌∷◌, ◌++◌, length, nat_eq, nat_lt, Option, Some, None, Result, Ok, Err, inl, inr, arith, refl, sym, ap, ◌∙◌, append_assoc, append-nil}
-use Rattle.std.specs.Prelude.{◌&&◌, if◌then◌else◌}
+use Rattle.std.proofs.Common.{◌≡◌, ℕ, ℤ, suc, pos, negsuc, ◌-◌, ◌<◌, ◌^◌, Bool, true, false, List, [], ◌∷◌, ◌++◌, length, nat_eq, nat_lt, Option, Some, None, Result, Ok, Err, inl, inr, arith, refl, sym, ap, ◌∙◌, append_assoc, append-nil}
 use Rattle.std.specs.Option.{option_map}
 use Rattle.std.specs.Str.{is_utf8}
 use Rattle.std.proofs.lemmas.Bool.{cases_Bool}
 use Rattle.std.proofs.lemmas.Bool.Decides.{nat_tests}
 use Rattle.key_encoding.specs.Coding.{AreBytes, IsSignedWord}
-use Rattle.key_encoding.specs.Spelling.{uvarint, varint, varint_down}
+use Rattle.key_encoding.specs.Spelling.{uvarint}
 use Rattle.key_encoding.specs.Reading.{read_uvarint}
 use Rattle.key_encoding.specs.declared.fault.KeyFault.{KeyFault}
 use Rattle.key_encoding.proofs.Grammars.{uvarint-found, uvarint-only, varint-found, varint-only, varint_down-found, varint_down-only}
@@ -17,7 +16,7 @@ use Rattle.row_codec.specs.KeyReading.{◌>>=◌, or_at, valued, an_id, read_byt
 use Rattle.row_codec.specs.declared.rows.Kind.{Kind}
 use Rattle.row_codec.specs.declared.rows.Kind.TheVariants.{Int as KindInt, Text as KindText, Bytes as KindBytes, Bool as KindBool, IntDown, TextDown, BytesDown, BoolDown}
 use Rattle.row_codec.specs.declared.rows.Datum.{Datum}
-use Rattle.row_codec.specs.declared.rows.Datum.TheVariants.{Int, Text, Bytes, Bool as Truth, Null}
+use Rattle.row_codec.specs.declared.rows.Datum.TheVariants.{Int, Text, Bytes, Bool as Truth}
 use Rattle.row_codec.proofs.KeyOrder.{both_true, truth_fits}
 
 -- ---- answers
@@ -211,13 +210,13 @@ key-found kinds len table xs r fits h =
     rw (append_assoc (uvarint table) (137 ∷ values_code kinds xs) r, id-found table (137 ∷ values_code kinds xs ++ r) fits, values-found kinds xs len r h) refl
 
 -- what is left to read after the table, the index and the values
-abbrev after_values : ℕ → ℕ → List Datum × List ℕ → Result ((ℕ × List Datum) × List ℕ) ℕ
+abbrev pub after_values : ℕ → ℕ → List Datum × List ℕ → Result ((ℕ × List Datum) × List ℕ) ℕ
 after_values len table values = or_at (len - length values.1) (read_byte 136 values.1) >>= (λ family. Ok ((table, values.0), family))
 
-abbrev after_index : List Kind → ℕ → ℕ → List ℕ → Result ((ℕ × List Datum) × List ℕ) ℕ
+abbrev pub after_index : List Kind → ℕ → ℕ → List ℕ → Result ((ℕ × List Datum) × List ℕ) ℕ
 after_index kinds len table index = read_values kinds len index >>= (λ values. after_values len table values)
 
-abbrev after_table : List Kind → ℕ → ℕ × List ℕ → Result ((ℕ × List Datum) × List ℕ) ℕ
+abbrev pub after_table : List Kind → ℕ → ℕ × List ℕ → Result ((ℕ × List Datum) × List ℕ) ℕ
 after_table kinds len table = or_at (len - length table.1) (read_byte 137 table.1) >>= (λ index. after_index kinds len table.0 index)
 
 tail-only : (kinds : List Kind) (len table : ℕ) (b : List ℕ) (t : ℕ) (xs : List Datum) (r : List ℕ) → AreBytes b → after_index kinds len table b ≡ Ok ((t, xs), r)

@@ -1,5 +1,5 @@
 -- The order of row keys.
-use Rattle.std.proofs.Common.{◌≡◌, ℕ, ℤ, pos, ◌<◌, ◌≤◌, ◌^◌, Bool, true, false, List, [], ◌∷◌, ◌++◌, nat_eq, arith, refl, ap, ◌∙◌, append_assoc}
+use Rattle.std.proofs.Common.{◌≡◌, ℕ, Bool, true, false, List, [], ◌∷◌, ◌++◌, arith, refl, ap, ◌∙◌, append_assoc}
 use Rattle.std.specs.Prelude.{◌&&◌, if◌then◌else◌}
 use Rattle.std.specs.Ordering.{nat_cmp, int_cmp, bool_cmp, ordering_then}
 use Rattle.std.specs.Cmp.Lexicographic.{slice_cmp}
@@ -11,7 +11,7 @@ use Rattle.key_encoding.proofs.UnsignedOrder.{uvarint-ordered}
 use Rattle.key_encoding.proofs.SignedOrder.{varint-ordered, varint_down-ordered}
 use Rattle.key_encoding.proofs.Escapes.{bytes-ordered, bytes_down-ordered}
 use Rattle.row_codec.specs.RowOrder.{rank, is_down, datum_cmp, row_cmp}
-use Rattle.row_codec.specs.RowKeys.{kind_rank, is_of_kind, are_of_kinds, IsValue, IsKey, truth_number, datum_code, values_code, row_key, RowKeysAreOrdered}
+use Rattle.row_codec.specs.RowKeys.{is_of_kind, are_of_kinds, IsValue, IsKey, truth_number, datum_code, values_code, row_key, RowKeysAreOrdered}
 use Rattle.row_codec.specs.declared.rows.Kind.{Kind}
 use Rattle.row_codec.specs.declared.rows.Datum.{Datum}
 use Rattle.row_codec.specs.declared.rows.Datum.TheVariants.{Int, Text, Bytes, Bool as Truth, Null}

@@ -3,3 +3,5 @@ pub mod Texts
 pub mod KeyOrder
 pub mod KeyLaws
 pub mod ValueLaws
+pub mod CharSteps
+pub mod KeyTests

@@ -1,13 +1,12 @@
 -- Row values are read as they are written.
-use Rattle.std.proofs.Common.{◌≡◌, ℕ, zero, suc, ◌+◌, ◌-◌, ◌<◌, ◌≤◌, ◌^◌, Bool, true, false, List, [], ◌∷◌, ◌++◌, length, get_or, take, drop, nat_eq, nat_lt, nat_le, Option, Some, None, Result, Ok, Err, inl, inr, arith, refl, sym, ap, ◌∙◌, append_assoc, append-nil, length-append}
-use Rattle.std.specs.Prelude.{◌&&◌, if◌then◌else◌}
+use Rattle.std.proofs.Common.{◌≡◌, ℕ, zero, suc, ◌-◌, ◌<◌, ◌≤◌, ◌^◌, Bool, true, false, List, [], ◌∷◌, ◌++◌, length, get_or, take, drop, nat_eq, nat_lt, nat_le, Option, Some, None, Result, Ok, Err, inl, inr, arith, refl, sym, ap, ◌∙◌, append_assoc, append-nil, length-append}
+use Rattle.std.specs.Prelude.{◌&&◌}
 use Rattle.std.specs.List.{AllByRecursion}
-use Rattle.std.specs.Str.{is_utf8}
 use Rattle.std.proofs.lemmas.Bool.{cases_Bool}
 use Rattle.std.proofs.lemmas.Bool.Decides.{nat_tests}
 use Rattle.std.proofs.lemmas.List.{take_at, drop_at, take-append-drop, length-take-le}
-use Rattle.key_encoding.specs.Coding.{AreBytes, IsSignedWord}
-use Rattle.key_encoding.specs.Spelling.{uvarint, varint}
+use Rattle.key_encoding.specs.Coding.{AreBytes}
+use Rattle.key_encoding.specs.Spelling.{uvarint}
 use Rattle.key_encoding.specs.Reading.{read_uvarint, read_varint}
 use Rattle.key_encoding.specs.declared.fault.KeyFault.{KeyFault}
 use Rattle.key_encoding.proofs.Grammars.{uvarint-found, uvarint-only, varint-found, varint-only}
@@ -15,12 +14,12 @@ use Rattle.key_encoding.proofs.SignedOrder.{first_high}
 use Rattle.row_codec.specs.RowOrder.{rank}
 use Rattle.row_codec.specs.RowKeys.{IsValue}
 use Rattle.row_codec.specs.KeyReading.{valued, an_id, a_number, a_text, some_bytes}
-use Rattle.row_codec.specs.RowValues.{are_cells, IsSized, IsCell, sized, marked_value, cell_code, row_value, cut, read_sized, beside_rest, made, read_flag, after_mark, read_marked_value, of_column, after_column, read_cell, with_cell, with_cells, reads, next_cell, read_cells, read_row_value, RowValuesAreExact}
+use Rattle.row_codec.specs.RowValues.{are_cells, IsSized, IsCell, sized, marked_value, cell_code, row_value, cut, read_sized, beside_rest, made, read_flag, read_marked_value, of_column, after_column, read_cell, with_cell, with_cells, reads, next_cell, read_cells, read_row_value, RowValuesAreExact}
 use Rattle.row_codec.specs.declared.rows.Cell.{Cell}
 use Rattle.row_codec.specs.declared.rows.Datum.{Datum}
 use Rattle.row_codec.specs.declared.rows.Datum.TheVariants.{Int, Text, Bytes, Bool as Truth, Null}
 use Rattle.row_codec.proofs.KeyOrder.{both_true}
-use Rattle.row_codec.proofs.KeyLaws.{pair_parts, some_is, ok_is, valued-some, bytes-after, id-found, id-only, text-is}
+use Rattle.row_codec.proofs.KeyLaws.{pair_parts, some_is, valued-some, bytes-after, id-found, id-only, text-is}
 
 -- ---- values
 

@@ -3,3 +3,4 @@ pub mod KeyReading
 pub mod RowKeys
 pub mod RowValues
 pub mod Views
+pub mod KeyChecking

@@ -7,6 +7,7 @@ ghost use Rattle.row_codec.specs.RowOrder.{is_down};
 ghost use Rattle.row_codec.specs.RowKeys.{datum_code, number_code, string_code, values_code, row_key, is_of_kind, are_of_kinds};
 ghost use Rattle.row_codec.specs.KeyReading.{FaultGives, Gives, or_at, valued, an_id, a_number, a_text, some_bytes, a_truth, read_byte, read_number, read_string, read_datum, read_values, read_key_front, read_row_key};
 
+use crate::fields::{take_byte, take_id};
 use crate::{Blob, Datum, Kind, Memory, Row, RowFault, Text};
 use key_encoding::{KeyFault, KeyKind};
 use std::alloc::Global;
@@ -31,6 +32,22 @@ pub fn is_of_kind(kind: Kind, value: &Datum) -> bool
         Datum::Bool(_) => matches!(kind, Kind::Bool | Kind::BoolDown),
         Datum::Null => false,
     }
+}
+
+/// Whether there is one value for each kind, of that kind.
+pub fn are_of_kinds(kinds: &[Kind], values: &[Datum]) -> bool
+    ensures { result ≡ are_of_kinds kinds.now values.now }
+{
+    let mut kinds_left = kinds;
+    let mut left = values;
+    'values: while !kinds_left.is_empty() && !left.is_empty() {
+        if !is_of_kind(kinds_left[0], &left[0]) {
+            return false;
+        }
+        kinds_left = kinds_left.split_at(1).1;
+        left = left.split_at(1).1;
+    }
+    kinds_left.is_empty() && left.is_empty()
 }
 
 // ---- writing
@@ -126,26 +143,26 @@ fn place(len: usize, rest: &[u8]) -> usize
 fn take_table(b: &[u8], len: usize) -> Result<(u32, &[u8]), RowFault>
     ensures { Gives (λ p. (p.0, p.1.now)) result (or_at (len - length b.now) (valued an_id (read_uvarint b.now))) }
 {
-    match key_encoding::take_uvarint(b) {
-        Ok((table, rest)) if table <= u64::from(u32::MAX) => Ok((table as u32, rest)),
-        _ => Err(RowFault::At {
+    match take_id(b) {
+        Some((table, rest)) => Ok((table, rest)),
+        None => Err(RowFault::At {
             offset: place(len, b),
         }),
     }
 }
 
-fn take_byte(byte: u8, b: &[u8], len: usize) -> Result<&[u8], RowFault>
-    ensures { Gives (λ rest. rest.now) result (or_at (len - length b.now) (read_byte byte b.now)) }
+fn take_mark(mark: u8, b: &[u8], len: usize) -> Result<&[u8], RowFault>
+    ensures { Gives (λ rest. rest.now) result (or_at (len - length b.now) (read_byte mark b.now)) }
 {
-    match b.split_first() {
-        Some((first, rest)) if *first == byte => Ok(rest),
-        _ => Err(RowFault::At {
+    match take_byte(mark, b) {
+        Some(rest) => Ok(rest),
+        None => Err(RowFault::At {
             offset: place(len, b),
         }),
     }
 }
 
-fn take_number(down: bool, b: &[u8]) -> Result<(i64, &[u8]), KeyFault>
+pub(crate) fn take_number(down: bool, b: &[u8]) -> Result<(i64, &[u8]), KeyFault>
     ensures { result_now result ≡ read_number down b.now }
 {
     if down {
@@ -268,9 +285,9 @@ pub fn read_row_key(alloc: Global, b: &[u8], kinds: &[Kind]) -> Result<(u32, Row
 {
     let len = b.len();
     let (table, rest) = take_table(b, len)?;
-    let rest = take_byte(137, rest, len)?;
+    let rest = take_mark(137, rest, len)?;
     let (values, rest) = take_values(alloc, kinds, rest, len)?;
-    let rest = take_byte(136, rest, len)?;
+    let rest = take_mark(136, rest, len)?;
     if !rest.is_empty() {
         return Err(RowFault::At {
             offset: place(len, rest),

@@ -8,8 +8,23 @@ ghost use Rattle.row_codec.specs.KeyReading.{Gives, or_at, a_number, a_text, an_
 ghost use Rattle.row_codec.specs.RowValues.{are_cells, sized, made, read_flag, marked_value, cell_code, row_value, read_sized, read_marked_value, read_cell, read_cells, with_cell, read_row_value, reads};
 ghost use Rattle.row_codec.specs.Views.{seen, seen_cell};
 
+use crate::fields::take_id;
 use crate::{Blob, Cell, Datum, Memory, RowFault, Text};
 use std::alloc::Global;
+
+/// Whether the columns of cells ascend from 1, and none is NULL.
+pub fn are_cells(cells: &[Cell]) -> bool
+    ensures { result ≡ are_cells 0 cells.now }
+{
+    let mut last = 0;
+    for cell in cells {
+        if cell.column <= last || matches!(cell.datum, Datum::Null) {
+            return false;
+        }
+        last = cell.column;
+    }
+    true
+}
 
 // ---- writing
 
@@ -165,15 +180,6 @@ fn take_marked_value(b: &[u8]) -> Option<(DatumView<'_>, &[u8])>
     }
 }
 
-fn take_column(b: &[u8]) -> Option<(u32, &[u8])>
-    ensures { option_map (λ p. (p.0, p.1.now)) result ≡ valued an_id (read_uvarint b.now) }
-{
-    match key_encoding::take_uvarint(b) {
-        Ok((column, rest)) if column <= u64::from(u32::MAX) => Some((column as u32, rest)),
-        _ => None,
-    }
-}
-
 /// A cell in the bytes that it is read from.
 #[derive(Clone, Copy)]
 pub struct CellView<'a> {
@@ -188,7 +194,7 @@ fn take_cell(last: u32, b: &[u8]) -> Option<(CellView<'_>, &[u8])>
     ensures goes_on { IfSome result (λ p. (length p.1.now < length b.now)
         × ((len : ℕ) → read_cells (length b.now) last len b.now ≡ with_cell (seen_cell p.0) (read_cells (length p.1.now) p.0.column len p.1.now))) }
 {
-    let Some((column, rest)) = take_column(b) else {
+    let Some((column, rest)) = take_id(b) else {
         return None;
     };
     if column <= last {

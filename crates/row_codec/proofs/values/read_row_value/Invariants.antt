@@ -1,4 +1,4 @@
-use Rattle.std.proofs.Common.{◌≡◌, ◌++◌, length}
+use Rattle.std.proofs.Common.{◌≡◌, length}
 use Rattle.row_codec.specs.RowValues.{read_cells, read_row_value, with_cells}
 use Rattle.row_codec.proofs.values.read_row_value.Given as goal
 
