@@ -181,7 +181,7 @@ pub completes : (code : ℕ) (script held : List ℕ) (l1 h1 : Option (List ℕ)
     → (worlds : List World) → Completes held h1 code (script_outcome worlds script)
 completes code script held l1 h1 read read_now wrote wrote_now r cause read_is read_low wrote_is wrote_low worlds =
     subst (λ (n : ℕ). Completes held h1 n (script_outcome worlds script)) (sym r.status)
-      (completes_by r.ending worlds script r.read r.rest r.written held h1 r.got
-        (λ e. stood read read_now read_is read_low (cause.read_fault (r.status ∙ ap code_of e)))
-        (λ e. stood wrote wrote_now wrote_is wrote_low (cause.write_fault (r.status ∙ ap code_of e)))
-        (r.headline worlds))
+    (completes_by r.ending worlds script r.read r.rest r.written held h1 r.got
+    (λ e. stood read read_now read_is read_low (cause.read_fault (r.status ∙ ap code_of e)))
+    (λ e. stood wrote wrote_now wrote_is wrote_low (cause.write_fault (r.status ∙ ap code_of e)))
+    (r.headline worlds))

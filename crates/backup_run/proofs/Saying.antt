@@ -114,5 +114,5 @@ line_goes_on a new false refused text said machine line is m worlds ls =
     let rest = outcome worlds (a.line + 1) (machine_after worlds a.machine (read_at a.machine a.pending)) ls in
     let same : outcome worlds new.line new.machine ls ≡ rest = rw (line, machine worlds) refl in
     ap (with_refused a.refused) (said worlds rest)
-      ∙ ap (λ (r : Bool). record { text = text ++ rest.text; refused = r; malformed = rest.malformed }) (or_assoc a.refused refused rest.refused ∙ ap (λ (r : Bool). r || rest.refused) (sym is))
-      ∙ ap (λ (o : Outcome). written_before text (with_refused new.refused o)) (sym same)
+    ∙ ap (λ (r : Bool). record { text = text ++ rest.text; refused = r; malformed = rest.malformed }) (or_assoc a.refused refused rest.refused ∙ ap (λ (r : Bool). r || rest.refused) (sym is))
+    ∙ ap (λ (o : Outcome). written_before text (with_refused new.refused o)) (sym same)

@@ -90,11 +90,13 @@ byte_stands a new b text worlds whole read front goes cleared quiet s = record {
   where
     goes_on : (more : List ℕ) → whole ((read ++ b ∷ []) ++ more) ≡ written_before (front ++ text) (outcome_of_rest worlds new more)
     goes_on more = ap whole (append_assoc read (b ∷ []) more) ∙ s.goes_on (b ∷ more) ∙ ap (written_before front) (goes more) ∙ written_twice front text (outcome_of_rest worlds new more)
+
     at_newline : b ≡ 10 → front ++ text ≡ (whole (whole_lines (read ++ b ∷ []))).text
     at_newline is =
         let none : length new.pending ≡ 0 = ap length (cleared is) in
         let all : (whole ((read ++ b ∷ []) ++ [])).text ≡ (front ++ text) ++ [] = ap (λ (o : Outcome). o.text) (goes_on [] ∙ ap (written_before (front ++ text)) (rest_nothing worlds new none)) in
         sym (append-nil (front ++ text)) ∙ sym all ∙ ap (λ (bs : List ℕ). (whole bs).text) (append-nil (read ++ b ∷ []) ∙ sym (lines_newline read b is))
+
     elsewhere : b ≢ 10 → front ++ text ≡ (whole (whole_lines (read ++ b ∷ []))).text
     elsewhere other = ap (λ (t : List ℕ). front ++ t) (quiet other) ∙ append-nil front ∙ s.answers ∙ ap (λ (bs : List ℕ). (whole bs).text) (sym (lines_other read b other))
 
@@ -134,7 +136,7 @@ fed_fed h0 h1 h2 a b c p q t u = record {
   stands = λ worlds whole read front s.
       let w = u.stands worlds whole (read ++ p) (front ++ t.text) (t.stands worlds whole read front s) in
       subst (λ (f : List ℕ). StandsAt whole (outcome_of_rest worlds c) (read ++ (p ++ q)) f) (append_assoc front t.text u.text)
-        (subst (λ (r : List ℕ). StandsAt whole (outcome_of_rest worlds c) r ((front ++ t.text) ++ u.text)) (append_assoc read p q) w);
+      (subst (λ (r : List ℕ). StandsAt whole (outcome_of_rest worlds c) r ((front ++ t.text) ++ u.text)) (append_assoc read p q) w);
 }
 
 pub fed_ended : (h0 h1 h2 : Option (List ℕ)) (a b : At) (p q : List ℕ) (stop : Stop) → Fed h0 h1 a b p → EndedIn h1 h2 b q stop → EndedIn h0 h2 a (p ++ q) stop
@@ -144,7 +146,7 @@ fed_ended h0 h1 h2 a b p q stop t u = record {
   ends = λ worlds whole read front s more.
       let w = u.ends worlds whole (read ++ p) (front ++ t.text) (t.stands worlds whole read front s) more in
       subst (λ (f : List ℕ). EndsBy stop f (whole ((read ++ (p ++ q)) ++ more))) (append_assoc front t.text u.text)
-        (subst (λ (r : List ℕ). EndsBy stop ((front ++ t.text) ++ u.text) (whole (r ++ more))) (append_assoc read p q) w);
+      (subst (λ (r : List ℕ). EndsBy stop ((front ++ t.text) ++ u.text) (whole (r ++ more))) (append_assoc read p q) w);
 }
 
 -- what comes after the byte in its piece wasn't looked at
@@ -154,7 +156,7 @@ ended_more h0 h1 a p rest stop t = record {
   wrote = t.wrote;
   ends = λ worlds whole read front s more.
       subst (λ (bs : List ℕ). EndsBy stop (front ++ t.text) (whole bs)) (sym (append_assoc (read ++ p) rest more) ∙ ap (λ (r : List ℕ). r ++ more) (append_assoc read p rest))
-        (t.ends worlds whole read front s (rest ++ more));
+      (t.ends worlds whole read front s (rest ++ more));
 }
 
 one_more : (piece : List ℕ) (i b : ℕ) → i < length piece → b ≡ get_or piece i 0 → take (i + 1) piece ≡ take i piece ++ b ∷ []

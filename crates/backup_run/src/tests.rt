@@ -14,7 +14,12 @@ struct Answered {
     text: Vec<u8>,
 }
 
-fn run_from<S: Source>(alloc: Global, word: &str, source: &mut S, room: usize) -> Result<Answered, Fail> {
+fn run_from<S: Source>(
+    alloc: Global,
+    word: &str,
+    source: &mut S,
+    room: usize,
+) -> Result<Answered, Fail> {
     let mut words = Vec::new(alloc);
     words.push(Text::copy_of(alloc, word)?)?;
     let mut sink = MemorySink::new(alloc, room, Vec::new(alloc))?;
@@ -65,7 +70,12 @@ fn each_status_comes_by_its_cause(rt: HostRuntime) -> Result<(), Fail> {
     let cases: [(&[u8], &[u64], u8, &[u8]); 5] = [
         (b"", &[], 0, b""),
         (b"CLUSTER a", &[], 0, b""),
-        (b"CLUSTER a\nCREATE DATABASE d\nUPSERT INTO d.t VALUES (1, 'a", &[], 3, b"ok\nmalformed line=3\n"),
+        (
+            b"CLUSTER a\nCREATE DATABASE d\nUPSERT INTO d.t VALUES (1, 'a",
+            &[],
+            3,
+            b"ok\nmalformed line=3\n",
+        ),
         (b"CREATE DATABASE d\n", &[], 3, b"malformed line=1\n"),
         (b"CLUSTER a\nCREATE DATABASE d\nTICK 7", &[2], 4, b"ok\n"),
     ];

@@ -63,7 +63,7 @@ rows_more d shown ks i k old new whole l at pushed kept =
     let rest = drop (i + 1) ks in
     let there : drop i ks ≡ k ∷ rest = drop_more ks i k l ∙ ap (λ (q : Key). q ∷ rest) (sym at) in
     ap (λ (xs : List (List Datum)). xs ++ shown_rows d (items shown rest)) pushed ∙ append_assoc old (row_seen d k (shown k)) (shown_rows d (items shown rest))
-      ∙ ap (λ (xs : List (List Datum)). old ++ xs) (sym (by (shown k))) ∙ sym (ap (λ (qs : List Key). old ++ shown_rows d (items shown qs)) there) ∙ kept
+    ∙ ap (λ (xs : List (List Datum)). old ++ xs) (sym (by (shown k))) ∙ sym (ap (λ (qs : List Key). old ++ shown_rows d (items shown qs)) there) ∙ kept
   where
     by : (r : Option (Version Cells)) → shown_rows d (with_item k r (items shown (drop (i + 1) ks))) ≡ row_seen d k r ++ shown_rows d (items shown (drop (i + 1) ks))
     by None = refl

@@ -272,7 +272,12 @@ impl Cluster {
                 columns,
                 key,
                 references,
-            } => self.create_table(table, columns.as_slice(), key.as_slice(), references.as_slice()),
+            } => self.create_table(
+                table,
+                columns.as_slice(),
+                key.as_slice(),
+                references.as_slice(),
+            ),
             Command::Upsert { table, rows } => self.upsert(table, rows.as_slice()),
             Command::Select { table, at } => self.select(table, *at),
         }

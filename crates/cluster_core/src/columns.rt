@@ -165,7 +165,13 @@ pub fn put_of(alloc: Global, d: &Descriptor, row: &Row, at: Hlc) -> Result<RowPu
 {
     let key = key_of(alloc, d, row)?;
     let mut cells = Vec::new(alloc);
-    add_cells(alloc, d.key_columns(), d.columns(), row.as_slice(), &mut cells)?;
+    add_cells(
+        alloc,
+        d.key_columns(),
+        d.columns(),
+        row.as_slice(),
+        &mut cells,
+    )?;
     Ok(RowPut {
         key,
         cells: Items::from_vec(cells),

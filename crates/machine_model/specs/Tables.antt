@@ -20,13 +20,13 @@ use Rattle.machine_model.specs.Machine.{Machine, Stepped, answered, refusal_if, 
 -- TICK sets the clock to the first time of a wall that is after it
 unfoldable pub tick : Machine → ℕ → Stepped
 tick m wall =
-  judged m (refusal_if (not (time_lt m.clock (time wall 0))) (TickBack m.clock) ∷ [])
+    judged m (refusal_if (not (time_lt m.clock (time wall 0))) (TickBack m.clock) ∷ [])
     (answered (record m { clock = time wall 0 }) (ClockSet (time wall 0)))
 
 -- CREATE DATABASE
 unfoldable pub create_database : Machine → List ℕ → Stepped
 create_database m name =
-  judged m (refusal_if (has_database m.history name) (DatabaseExists name) ∷ [])
+    judged m (refusal_if (has_database m.history name) (DatabaseExists name) ∷ [])
     (answered (record m { history = record m.history { databases = m.history.databases ++ name ∷ [] } }) Plain)
 
 -- ---- CREATE TABLE
@@ -52,18 +52,18 @@ with_new_table m d = record m { clock = d.modified; history = record m.history {
 abbrev pub table_tests : Machine → List ℕ × List ℕ → List (List ℕ × Kind) → List (List ℕ × Bool) → List (List ℕ × List ℕ) → List (Option Refusal)
 table_tests m name columns key references =
     refusal_if (not (has_database m.history name.0)) (NoSuchDatabase name.0)
-  ∷ refusal_if (is_some (place_named m.history.tables name m.clock)) (NameTaken name)
-  ∷ schema_refusal (broken_rule columns key (repeats is_same_name references))
-  ∷ refusal_if (not (length references == 0)) NotBuilt
-  ∷ refusal_if (nat_le m.limits.tables (length m.history.tables)) TooManyTables
-  ∷ []
+    ∷ refusal_if (is_some (place_named m.history.tables name m.clock)) (NameTaken name)
+    ∷ schema_refusal (broken_rule columns key (repeats is_same_name references))
+    ∷ refusal_if (not (length references == 0)) NotBuilt
+    ∷ refusal_if (nat_le m.limits.tables (length m.history.tables)) TooManyTables
+    ∷ []
 
 -- CREATE TABLE. A table with references isn't built yet
 unfoldable pub create_table : Machine → List ℕ × List ℕ → List (List ℕ × Kind) → List (List ℕ × Bool) → List (List ℕ × List ℕ) → Stepped
 create_table m name columns key references =
-  drawing m (λ t.
+    drawing m (λ t.
     judged m (table_tests m name columns key references)
-      (answered (with_new_table m (new_schema (next_id m) name.0 name.1 columns key [] t)) (TableMade (next_id m) t)))
+    (answered (with_new_table m (new_schema (next_id m) name.0 name.1 columns key [] t)) (TableMade (next_id m) t)))
 
 -- ---- UPSERT
 
@@ -100,22 +100,22 @@ duplicate_refusal (Some row) = Some (DuplicateKey row)
 abbrev pub row_tests : Machine → Schema → List (List Datum) → List (Option Refusal)
 row_tests m d rows =
     wrong_row_from d 1 rows
-  ∷ refusal_if (list_any is_long rows) NotBuilt
-  ∷ duplicate_refusal (duplicate_after (key_order d) [] (map (key_of d) rows))
-  ∷ refusal_if (nat_lt m.limits.events (accepted m.history.tables + length rows)) TooManyEvents
-  ∷ []
+    ∷ refusal_if (list_any is_long rows) NotBuilt
+    ∷ duplicate_refusal (duplicate_after (key_order d) [] (map (key_of d) rows))
+    ∷ refusal_if (nat_lt m.limits.events (accepted m.history.tables + length rows)) TooManyEvents
+    ∷ []
 
 -- facts are added at the end of the table at a place
 abbrev pub with_facts : Machine → Found → List RowFact → Time → Machine
 with_facts m f facts t =
-  record m { clock = t; history = record m.history { tables = slice_set m.history.tables f.place (record f.table { facts = f.table.facts ++ facts }) } }
+    record m { clock = t; history = record m.history { tables = slice_set m.history.tables f.place (record f.table { facts = f.table.facts ++ facts }) } }
 
 -- UPSERT. A row with more than 1,024 bytes of texts and bytes isn't built yet
 unfoldable pub upsert : Machine → List ℕ × List ℕ → List (List Datum) → Stepped
 upsert m name rows =
-  drawing m (λ t. with_table m name m.clock (λ f.
+    drawing m (λ t. with_table m name m.clock (λ f.
     judged m (row_tests m f.schema rows)
-      (answered (with_facts m f (map (put_of f.schema t) rows) t) (RowsWritten (length rows) t))))
+    (answered (with_facts m f (map (put_of f.schema t) rows) t) (RowsWritten (length rows) t))))
 
 -- ---- SELECT
 
@@ -126,5 +126,5 @@ rows_at f t = shown_rows f.schema (scan (key_order f.schema) t f.table.facts)
 -- SELECT, as of the time that is given, or of the clock
 unfoldable pub select : Machine → List ℕ × List ℕ → Option Time → Stepped
 select m name at =
-  judged m (refusal_if (time_lt m.clock (unwrap_or at m.clock)) (Future m.clock) ∷ [])
+    judged m (refusal_if (time_lt m.clock (unwrap_or at m.clock)) (Future m.clock) ∷ [])
     (with_table m name (unwrap_or at m.clock) (λ f. answered m (RowsShown (rows_at f (unwrap_or at m.clock)))))

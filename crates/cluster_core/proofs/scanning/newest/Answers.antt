@@ -16,5 +16,5 @@ loop-left-preserved c =
     let more = newest_more cmp k c.args.t puts (c.loop-left.left - 1) c.loop-left.left put (omega arith) (omega arith) in (
       omega arith,
       c.newer-best.ensures ∙ ap (newest_step cmp k c.args.t (fact_of put)) c.loop-left.invariant.1
-        ∙ ap (λ (p : RowPut). newest_step cmp k c.args.t (fact_of p) rest) c.index-puts-left.is ∙ sym more,
+          ∙ ap (λ (p : RowPut). newest_step cmp k c.args.t (fact_of p) rest) c.index-puts-left.is ∙ sym more,
     )
