@@ -334,18 +334,25 @@ fn tables(rt: HostRuntime) {
     }
 }
 
+fn time_of(command: &Command) -> Option<Hlc> {
+    match command {
+        Command::Select { at, .. } => *at,
+        Command::Tick { wall } => Some(Hlc::at_wall(*wall)),
+        _ => None,
+    }
+}
+
+fn time_in(rt: &HostRuntime, line: &[u8]) -> Option<Hlc> {
+    match parse_line(rt.alloc(), line, false) {
+        Ok(Some(command)) => time_of(&command),
+        _ => None,
+    }
+}
+
 #[test]
 fn times(rt: HostRuntime) {
-    match parse_line(
-        rt.alloc(),
-        b"SELECT * FROM d.t AS OF SYSTEM TIME '5.0000000007'",
-        false,
-    ) {
-        Ok(Some(Command::Select { at, .. })) => assert!(rt; at == Hlc::new(5, 7)),
-        _ => assert!(rt; false),
-    }
-    match parse_line(rt.alloc(), b"TICK -0", false) {
-        Ok(Some(Command::Tick { wall })) => assert!(rt; wall == 0),
-        _ => assert!(rt; false),
-    }
+    let select = time_in(&rt, b"SELECT * FROM d.t AS OF SYSTEM TIME '5.0000000007'");
+    assert!(rt; select == Hlc::new(5, 7));
+    let tick = time_in(&rt, b"TICK -0");
+    assert!(rt; tick == Some(Hlc::zero()));
 }

@@ -1,0 +1,31 @@
+use Rattle.std.proofs.Common.{◌≡◌, ◌≢◌, ℕ, ◌+◌, ◌-◌, suc, List, [], ◌∷◌, ◌++◌, length, true, false, refl, sym, ap, subst, ◌∙◌, arith}
+use Rattle.std.proofs.lemmas.Bool.Decides.{nat_tests}
+use Rattle.machine_model.specs.Script.{malformed_text, Outcome}
+use Rattle.backup_run.specs.Run.{outcome_of_rest}
+use Rattle.machine_model.specs.Machine.{World}
+use Rattle.backup_run.specs.SessionView.{view_of}
+use Rattle.backup_run.proofs.Saying.{last_said, last_beyond, last_too_long, newline_last, newline_goes_on, byte_goes_on}
+use Rattle.backup_run.proofs.session.Session.take_byte.Goals as goal
+
+pub returns-then-self-eq0-clause-malformed : goal.returns-then-self-eq0-clause-malformed
+returns-then-self-eq0-clause-malformed c =
+    let b = c.args.byte in
+    rw (← c.self.view_is) (last_said c.malformed_said.result (malformed_text c.self.inside.line) (λ (worlds : List World) (more : List ℕ). outcome_of_rest worlds (view_of c.self.inside) (b ∷ more)) c.malformed_said.ensures.text (last_beyond _ b c.if-self-eq0.true))
+
+pub returns-then-byte-eq10-clause-malformed : goal.returns-then-byte-eq10-clause-malformed
+returns-then-byte-eq10-clause-malformed c =
+    rw (← c.self.view_is) (newline_last _ c.args.byte c.end_line.result c.if-self-eq0.false c.if-byte-eq10.true c.end_line.ensures.malformed)
+
+pub returns-then-byte-eq10-clause-goes_on : goal.returns-then-byte-eq10-clause-goes_on
+returns-then-byte-eq10-clause-goes_on c =
+    rw (← c.self.view_is) (newline_goes_on _ c.end_line.new.self c.args.byte c.end_line.result c.if-self-eq0.false c.if-byte-eq10.true c.end_line.ensures.goes_on c.end_line.ensures.cleared c.end_line.ensures.room)
+
+pub returns-then-len-eq65536-clause-malformed : goal.returns-then-len-eq65536-clause-malformed
+returns-then-len-eq65536-clause-malformed c =
+    let b = c.args.byte in
+    let full : length c.self.inside.pending.items ≡ 65536 = grind (arith, nat_tests) in
+    rw (← c.self.view_is) (last_said c.malformed_said-then-len-eq65536.result (malformed_text c.self.inside.line) (λ (worlds : List World) (more : List ℕ). outcome_of_rest worlds (view_of c.self.inside) (b ∷ more)) c.malformed_said-then-len-eq65536.ensures.text (last_too_long _ b c.if-self-eq0.false c.if-byte-eq10.false full))
+
+pub returns-clause-goes_on : goal.returns-clause-goes_on
+returns-clause-goes_on c = λ _ worlds more.
+    rw (← c.self.view_is, c.nothing_said.ensures.text) (byte_goes_on _ c.args.byte c.push.new.self.items c.if-self-eq0.false c.if-byte-eq10.false c.in_ok-push.ensures.items worlds more)

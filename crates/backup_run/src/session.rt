@@ -1,0 +1,128 @@
+//! A run in the middle of its script.
+ghost use Rattle.std.specs.Prelude.{◌≡◌, ◌≢◌, ◌<◌, ◌+◌, ◌∷◌, [], ◌==◌, ◌||◌, not, length, ℕ, IfOk, List, true, false};
+ghost use Rattle.machine_model.specs.Machine.{World};
+ghost use Rattle.machine_model.specs.Script.{Line, Within};
+ghost use Rattle.backup_run.specs.Endings.{IsLast};
+ghost use Rattle.backup_run.specs.Run.{start, written_before, ended_at, outcome_of_lines, outcome_of_rest};
+
+use crate::answering::{Said, line_said, malformed_said, nothing_said};
+use cluster_core::Cluster;
+use mvcc_keys::Memory;
+use std::alloc::Global;
+use std::marker::Model;
+
+/// The cluster, the line so far, and how many bytes the script may still have.
+#[derive(Drop)]
+pub struct Session {
+    alloc: Global,
+    cluster: Option<Cluster>,
+    pending: Vec<u8>,
+    line: u32,
+    room: u32,
+    refused: bool,
+}
+
+impl Model for Session {
+    ghost use Rattle.backup_run.specs.Run.{At};
+
+    ghost Value = { At };
+
+    ghost use Rattle.backup_run.specs.SessionView.{view_of, Bounds};
+
+    ghost view = { view_of };
+
+    ghost invariant = { Bounds };
+}
+
+fn either(a: bool, b: bool) -> bool
+    ensures { result ≡ (a || b) }
+{
+    a || b
+}
+
+impl Session {
+    /// A run that has read nothing, of a script of at most 67,108,864 bytes.
+    #[tactic(auto, unfolding(crate::specs::Run::start))]
+    pub fn new(alloc: Global) -> Session
+        ensures { result ≡ start }
+    {
+        Session {
+            alloc,
+            cluster: None,
+            pending: Vec::new(alloc),
+            line: 1,
+            room: 67_108_864,
+            refused: false,
+        }
+    }
+
+    /// Whether a reply was a refusal.
+    pub fn refused(&self) -> bool
+        ensures { result ≡ self.now.refused }
+    {
+        self.refused
+    }
+
+    /// Whether some bytes of a line wait for its end.
+    fn is_amid_line(&self) -> bool
+        ensures value { result ≡ not (length self.now.pending == 0) }
+        ensures bounded { result ≡ true → self.now.line + self.now.room < 67108865 }
+    {
+        !self.pending.is_empty()
+    }
+
+    /// Executes the line that was read.
+    fn end_line(&mut self) -> Result<Said, Memory>
+        requires { self.old.line + self.old.room < 67108865 }
+        ensures malformed { IfOk result (λ said. said.malformed ≡ true → (worlds : List World) (ls : List Line) →
+            IsLast said.text.items (outcome_of_lines worlds self.old (Within self.old.pending ∷ ls))) }
+        ensures goes_on { IfOk result (λ said. said.malformed ≡ false → (worlds : List World) (ls : List Line) →
+            outcome_of_lines worlds self.old (Within self.old.pending ∷ ls) ≡ written_before said.text.items (outcome_of_lines worlds self.new ls)) }
+        ensures cleared { IfOk result (λ _. self.new.pending ≡ []) }
+        ensures room { self.new.room ≡ self.old.room }
+    {
+        let said = line_said(self.alloc, &mut self.cluster, self.line, &self.pending)?;
+        self.pending.clear();
+        self.line += 1;
+        self.refused = either(self.refused, said.refused);
+        Ok(said)
+    }
+
+    /// Takes a byte of the script.
+    pub fn take_byte(&mut self, byte: u8) -> Result<Said, Memory>
+        ensures malformed { IfOk result (λ said. said.malformed ≡ true → (worlds : List World) (more : List ℕ) →
+            IsLast said.text.items (outcome_of_rest worlds self.old (byte ∷ more))) }
+        ensures goes_on { IfOk result (λ said. said.malformed ≡ false → (worlds : List World) (more : List ℕ) →
+            outcome_of_rest worlds self.old (byte ∷ more) ≡ written_before said.text.items (outcome_of_rest worlds self.new more)) }
+        ensures room { IfOk result (λ said. said.malformed ≡ false → self.new.room + 1 ≡ self.old.room) }
+        ensures cleared { IfOk result (λ said. said.malformed ≡ false → byte ≡ 10 → self.new.pending ≡ []) }
+        ensures quiet { IfOk result (λ said. said.malformed ≡ false → byte ≢ 10 → said.text.items ≡ []) }
+    {
+        if self.room == 0 {
+            return malformed_said(self.alloc, self.line);
+        }
+        if byte == b'\n' {
+            self.room -= 1;
+            return self.end_line();
+        }
+        if self.pending.len() == 65_536 {
+            return malformed_said(self.alloc, self.line);
+        }
+        self.room -= 1;
+        self.pending.push(byte)?;
+        Ok(nothing_said(self.alloc))
+    }
+
+    /// Takes the end of the input, which may end a line.
+    pub fn end_input(&mut self) -> Result<Said, Memory>
+        ensures malformed { IfOk result (λ said. said.malformed ≡ true → (worlds : List World) →
+            IsLast said.text.items (outcome_of_rest worlds self.old [])) }
+        ensures goes_on { IfOk result (λ said. said.malformed ≡ false → (worlds : List World) →
+            outcome_of_rest worlds self.old [] ≡ written_before said.text.items (ended_at self.new.refused)) }
+    {
+        if self.is_amid_line() {
+            return self.end_line();
+        }
+        Ok(nothing_said(self.alloc))
+    }
+}

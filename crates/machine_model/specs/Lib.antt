@@ -1,0 +1,4 @@
+pub mod Machine
+pub mod Tables
+pub mod Step
+pub mod Script

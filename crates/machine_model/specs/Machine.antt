@@ -1,0 +1,86 @@
+-- The state of a cluster, worlds beside it, and the frame of a command: tests, then a change.
+use Rattle.std.specs.Prelude.{ℕ, Bool, List, [], ◌∷◌, Option, Some, None, if◌then◌else◌}
+use Rattle.mvcc_keys.specs.Times.{Time, next}
+use Rattle.reply_texts.specs.declared.refusals.Refusal.{Refusal}
+use Rattle.reply_texts.specs.declared.refusals.Refusal.TheVariants.{ClockFull, NoSuchTable}
+use Rattle.reply_texts.specs.declared.answers.Answer.{Answer}
+use Rattle.reply_texts.specs.declared.replies.Response.{Response}
+use Rattle.reply_texts.specs.declared.replies.Response.TheVariants.{Refused, Answered}
+use Rattle.history_model.specs.Histories.{History, Found, named}
+use Rattle.history_model.specs.Layers.{Layer}
+
+-- how many facts may ever be accepted, and how many table ids given
+pub record Limits : Type 0 where
+  pub events : ℕ
+  pub tables : ℕ
+
+-- another cluster whose layers the store holds: its name, its history, its open layers
+pub record World : Type 0 where
+  pub name : List ℕ
+  pub history : History
+  pub layers : List Layer
+
+-- the state of the cluster
+pub record Machine : Type 0 where
+  pub name : List ℕ
+  pub limits : Limits
+  pub clock : Time
+  pub history : History
+
+-- a cluster of this name that has done nothing
+abbrev pub empty_machine : List ℕ → Time → Limits → Machine
+empty_machine name clock limits = record { name = name; limits = limits; clock = clock; history = record { databases = []; tables = [] } }
+
+-- the state after a command, and what it is answered
+pub record Stepped : Type 0 where
+  pub machine : Machine
+  pub response : Response
+
+abbrev pub stepped : Machine → Response → Stepped
+stepped m response = record { machine = m; response = response }
+
+-- a refused command leaves all as it was
+abbrev pub refused : Machine → Refusal → Stepped
+refused m refusal = stepped m (Refused refusal)
+
+abbrev pub answered : Machine → Answer → Stepped
+answered m answer = stepped m (Answered answer)
+
+-- ---- tests
+
+abbrev pub refusal_if : Bool → Refusal → Option Refusal
+refusal_if test refusal = if test then Some refusal else None
+
+-- the first refusal that a list of tests gives
+abbrev pub first_refusal : List (Option Refusal) → Option Refusal
+first_refusal [] = None
+first_refusal (None ∷ tests) = first_refusal tests
+first_refusal (Some refusal ∷ tests) = Some refusal
+
+abbrev pub unless_refused : Machine → Option Refusal → Stepped → Stepped
+unless_refused m None change = change
+unless_refused m (Some refusal) change = refused m refusal
+
+-- the first test that holds refuses the command; where none does, the change is made
+abbrev pub judged : Machine → List (Option Refusal) → Stepped → Stepped
+judged m tests change = unless_refused m (first_refusal tests) change
+
+-- ---- drawn times
+
+abbrev pub with_time : Machine → Option Time → (Time → Stepped) → Stepped
+with_time m None change = refused m ClockFull
+with_time m (Some t) change = change t
+
+-- a command that dates something draws the clock's next time
+abbrev pub drawing : Machine → (Time → Stepped) → Stepped
+drawing m change = with_time m (next m.clock) change
+
+-- ---- tables by name
+
+abbrev pub with_found : Machine → List ℕ × List ℕ → Option Found → (Found → Stepped) → Stepped
+with_found m name None change = refused m (NoSuchTable name)
+with_found m name (Some found) change = change found
+
+-- what is done with the table to which the name belongs at t
+abbrev pub with_table : Machine → List ℕ × List ℕ → Time → (Found → Stepped) → Stepped
+with_table m name t change = with_found m name (named m.history.tables name t) change
