@@ -1,6 +1,8 @@
 //! Worked scripts, and each status once.
 ghost use Rattle.std.specs.Prelude.{None};
 
+mod times;
+
 use super::*;
 use mvcc_keys::Text;
 use outside_world::{Failed, MemorySink, MemorySource, Source, SureDisk};
@@ -60,6 +62,51 @@ refused 5 NoSuchTable table=d.u
 fn rows_are_shown_as_of_a_past_time(rt: HostRuntime) -> Result<(), Fail> {
     let answered = run_over(rt.alloc(), FIRST_RUN, &[])?;
     assert_eq!(rt; answered.text.as_slice(), FIRST_REPLIES);
+    assert_eq!(rt; answered.code, 1);
+    Ok(())
+}
+
+const REFUSALS: &[u8] = b"CLUSTER a
+TICK 0
+CREATE TABLE d.t (k INT, PRIMARY KEY (k))
+CREATE DATABASE d
+CREATE DATABASE d
+CREATE TABLE d.t (k INT, v STRING, PRIMARY KEY (k DESC))
+CREATE TABLE d.t (k INT, PRIMARY KEY (k))
+CREATE TABLE d.u (k INT, k INT, PRIMARY KEY (n))
+CREATE TABLE d.u (k INT, PRIMARY KEY (k), REFERENCES d.t)
+UPSERT INTO d.u VALUES (1)
+UPSERT INTO d.t VALUES (1, 'a'), (2, 3)
+UPSERT INTO d.t VALUES (1)
+UPSERT INTO d.t VALUES (1, 'a'), (1, 'b')
+UPSERT INTO d.t VALUES (1, NULL), (-2, 'it''s')
+SELECT * FROM d.t AS OF SYSTEM TIME '9.0000000000'
+SELECT * FROM d.t
+";
+
+const REFUSED: &[u8] = b"refused 2 TickBack now=0.0000000000
+refused 3 NoSuchDatabase database=d
+ok
+refused 4 DatabaseExists database=d
+ok table=100 at=0.0000000001
+refused 6 NameTaken table=d.t
+refused 8 BadSchema which=1
+refused 39 NotBuilt
+refused 5 NoSuchTable table=d.u
+refused 9 WrongRow row=2 column=2
+refused 9 WrongRow row=1 column=0
+refused 15 DuplicateKey row=2
+ok rows=2 at=0.0000000002
+refused 11 Future now=0.0000000002
+ok rows=2
+  (1, NULL)
+  (-2, 'it''s')
+";
+
+#[test]
+fn refused_commands_leave_all_as_it_was(rt: HostRuntime) -> Result<(), Fail> {
+    let answered = run_over(rt.alloc(), REFUSALS, &[])?;
+    assert_eq!(rt; answered.text.as_slice(), REFUSED);
     assert_eq!(rt; answered.code, 1);
     Ok(())
 }
