@@ -1,0 +1,5 @@
+pub mod Ways
+pub mod Cover
+pub mod Steps
+pub mod Tasks
+pub mod Reaching
