@@ -1,18 +1,16 @@
 -- Rewritten keys keep their order and their differences.
-use Rattle.std.proofs.Common.{◌≡◌, ℕ, ◌<◌, ◌^◌, nat_eq, List, ◌++◌, Option, Some, None, Result, Ok, Err, Equal, arith, refl, sym, ap, subst, ◌∙◌}
+use Rattle.std.proofs.Common.{◌≡◌, ℕ, ◌<◌, ◌^◌, nat_eq, List, ◌++◌, Option, Some, None, Result, Ok, Err, Equal, arith, refl, sym, ap, ◌∙◌}
 use Rattle.std.specs.Map.{lookup}
 use Rattle.std.specs.Ordering.{nat_cmp, ordering_then}
 use Rattle.std.specs.Cmp.Lexicographic.{slice_cmp}
-use Rattle.std.specs.declared.cmp.Ordering.{Ordering}
 use Rattle.std.proofs.lemmas.Bool.Decides.{nat_tests}
-use Rattle.key_encoding.specs.Coding.{AreBytes, IsCode, IsWord}
+use Rattle.key_encoding.specs.Coding.{IsCode, IsWord}
 use Rattle.key_encoding.specs.Reading.{read_uvarint}
 use Rattle.key_encoding.specs.Spelling.{uvarint}
 use Rattle.key_encoding.specs.declared.fault.KeyFault.{KeyFault}
 use Rattle.key_encoding.proofs.Answered.{is_code}
 use Rattle.key_encoding.proofs.Grammars.{uvarint-found, uvarint-only}
 use Rattle.key_encoding.proofs.UnsignedOrder.{uvarint-ordered}
-use Rattle.key_rewriter.specs.declared.rewriting.RewriteFault.{RewriteFault}
 use Rattle.key_rewriter.specs.Ids.{IsIdMap}
 use Rattle.key_rewriter.specs.Rewriting.{KeepsDifferences, KeepsOrder, replaced, rewritten, rewritten_by}
 use Rattle.key_rewriter.proofs.Pairs.{partner-one, partner-small}

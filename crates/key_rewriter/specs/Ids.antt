@@ -1,5 +1,5 @@
 -- Old ids and new ones.
-use Rattle.std.specs.Prelude.{◌≡◌, ℕ, ◌+◌, ◌<◌, ◌^◌, Bool, true, ◌&&◌, nat_le, List, [], ◌∷◌}
+use Rattle.std.specs.Prelude.{ℕ, ◌+◌, ◌<◌, ◌^◌, Bool, true, ◌&&◌, nat_le, List, [], ◌∷◌}
 use Rattle.std.specs.List.{AllByRecursion}
 
 -- each is at least n, and greater than the one before

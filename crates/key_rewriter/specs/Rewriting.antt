@@ -4,7 +4,7 @@ use Rattle.std.specs.Map.{lookup}
 use Rattle.std.specs.Ordering.{nat_cmp}
 use Rattle.std.specs.Cmp.Lexicographic.{slice_cmp}
 use Rattle.key_encoding.specs.Coding.{AreBytes}
-use Rattle.key_encoding.specs.Reading.{read_uvarint}
+use Rattle.key_encoding.specs.Reading.{no_memory, read_uvarint}
 use Rattle.key_encoding.specs.Spelling.{uvarint}
 use Rattle.key_encoding.specs.declared.fault.KeyFault.{KeyFault}
 use Rattle.key_rewriter.specs.declared.rewriting.RewriteFault.{RewriteFault}
@@ -32,6 +32,11 @@ after bs (Err fault) = Err fault
 abbrev pub RefusalIs : Result (List ℕ) RewriteFault → RewriteFault → Type 0
 RefusalIs answer Memory = Unit {0}
 RefusalIs answer fault = answer ≡ Err fault
+
+-- a fault of a key is one of its bytes
+abbrev pub IsOfBytes : RewriteFault → Type 0
+IsOfBytes (Key fault) = fault.kind ≡ no_memory.kind → ⊥
+IsOfBytes fault = Unit {0}
 
 -- keys of one table have the same id in front
 abbrev pub KeepsOrder : Type 0

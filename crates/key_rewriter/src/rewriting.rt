@@ -1,7 +1,7 @@
 //! The id in front of a key replaced.
 ghost use Rattle.std.specs.Prelude.{◌≡◌, ◌++◌, Ok, OnOk, OnErr, IfErr};
 ghost use Rattle.key_encoding.specs.Spelling.{uvarint};
-ghost use Rattle.key_rewriter.specs.Rewriting.{RefusalIs, after, rewritten};
+ghost use Rattle.key_rewriter.specs.Rewriting.{IsOfBytes, RefusalIs, after, rewritten};
 
 use crate::id_map::IdMap;
 use key_encoding::{KeyFault, Memory, put_uvarint, take_uvarint};
@@ -34,6 +34,7 @@ fn put_key(id: u32, rest: &[u8], out: &mut Vec<u8>) -> Result<(), Memory>
 pub fn rewrite(key: &[u8], map: &IdMap, out: &mut Vec<u8>) -> Result<(), RewriteFault>
     ensures ok { OnOk result (Ok out.new.items ≡ after out.old.items (rewritten map.now key.now)) }
     ensures refusal { IfErr result (RefusalIs (rewritten map.now key.now)) }
+    ensures of_bytes { IfErr result IsOfBytes }
     ensures err { OnErr result (out.new.items ≡ out.old.items) }
 {
     let (id, rest) = match take_uvarint(key) {
