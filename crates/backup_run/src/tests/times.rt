@@ -6,6 +6,21 @@ use mvcc_keys::{
 use std::cmp::Ordering;
 use std::test::Fail;
 
+/// Whether the bytes are a time's, and nothing more.
+fn is_time(bytes: &[u8], t: Hlc) -> bool {
+    match take_time(bytes) {
+        Some((read, rest)) => read == t && rest.is_empty(),
+        None => false,
+    }
+}
+
+fn is_key_at(bytes: &[u8], key: &[u8], t: Hlc) -> bool {
+    match split_mvcc(bytes) {
+        Some((front, at)) => front == key && at == t,
+        None => false,
+    }
+}
+
 #[test]
 fn texts_of_times(rt: HostRuntime) -> Result<(), Fail> {
     let t = Hlc::new(1000, 7).ok_or("a time")?;
@@ -29,9 +44,7 @@ fn times_in_twelve_bytes(rt: HostRuntime) -> Result<(), Fail> {
     let mut bytes = Vec::new(rt.alloc());
     put_time(t, &mut bytes)?;
     assert_eq!(rt; bytes.as_slice(), spelling.as_slice());
-    let (read, rest) = take_time(&bytes).ok_or("a time")?;
-    assert!(rt; read == t);
-    assert!(rt; rest.is_empty());
+    assert!(rt; is_time(&bytes, t));
     assert!(rt; take_time(&spelling[..11]).is_none());
     Ok(())
 }
@@ -53,9 +66,7 @@ fn keys_of_versions(rt: HostRuntime) -> Result<(), Fail> {
         let mut bytes = Vec::new(rt.alloc());
         encode_mvcc(&key, t, &mut bytes)?;
         assert_eq!(rt; bytes.as_slice(), *spelling);
-        let (front, at) = split_mvcc(spelling).ok_or("a key")?;
-        assert!(rt; at == t);
-        assert_eq!(rt; front, key.as_slice());
+        assert!(rt; is_key_at(spelling, &key, t));
     }
     let zero = [
         0xec, 0x89, 0x8f, 0x88, 0, 0, 0, 0, 0, 0, 0, 0, 5, 0, 0, 0, 0, 13,
