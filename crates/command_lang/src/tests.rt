@@ -76,8 +76,8 @@ fn lines_of_tokens(rt: HostRuntime) {
 }
 
 #[test]
-fn lines_of_schemas(rt: HostRuntime) {
-    let cases: [(&[u8], usize); 35] = [
+fn lines_of_databases(rt: HostRuntime) {
+    let cases: [(&[u8], usize); 10] = [
         (b"CREATE", 7),
         (b"CREATE ", 8),
         (b"CREATE x", 8),
@@ -88,6 +88,16 @@ fn lines_of_schemas(rt: HostRuntime) {
         (b"CREATE DATABASE a.b", 18),
         (b"CREATE DATABASE 5a", 17),
         (b"CREATE DATABASE 'a'", 17),
+    ];
+    for (line, wanted) in cases.iter() {
+        let found = column(&rt, line, false);
+        assert_eq!(rt; found, *wanted);
+    }
+}
+
+#[test]
+fn lines_of_tables(rt: HostRuntime) {
+    let cases: [(&[u8], usize); 16] = [
         (b"CREATE TABLE d", 15),
         (b"CREATE TABLE d t", 16),
         (b"CREATE TABLE d.t k INT", 18),
@@ -116,6 +126,16 @@ fn lines_of_schemas(rt: HostRuntime) {
         (b"CREATE TABLE d.t (k INT PRIMARY KEY (k))", 25),
         (b"CREATE TABLE d.t (k INTS", 21),
         (b"CREATE TABLE d.t (k INT, PRIMARY INT", 34),
+    ];
+    for (line, wanted) in cases.iter() {
+        let found = column(&rt, line, false);
+        assert_eq!(rt; found, *wanted);
+    }
+}
+
+#[test]
+fn lines_of_keys(rt: HostRuntime) {
+    let cases: [(&[u8], usize); 9] = [
         (b"CREATE TABLE d.t (k INT, PRIMARY KEY ())", 39),
         (b"CREATE TABLE d.t (k INT, PRIMARY KEY (k,))", 41),
         (
@@ -146,7 +166,7 @@ fn lines_of_schemas(rt: HostRuntime) {
 
 #[test]
 fn lines_of_rows(rt: HostRuntime) {
-    let cases: [(&[u8], usize); 47] = [
+    let cases: [(&[u8], usize); 17] = [
         (
             b"UPSERT INTO d.t VALUES (2, 'b'), (-1, 'it''s'), (NULL, true)",
             COMMAND,
@@ -167,6 +187,16 @@ fn lines_of_rows(rt: HostRuntime) {
         (b"UPSERT INTO d.t VALUES (''''), ('')", COMMAND),
         (b"UPSERT INTO d.t VALUES (''')", 25),
         (b"UPSERT INTO d.t VALUES ('a'b')", 28),
+    ];
+    for (line, wanted) in cases.iter() {
+        let found = column(&rt, line, false);
+        assert_eq!(rt; found, *wanted);
+    }
+}
+
+#[test]
+fn lines_of_values(rt: HostRuntime) {
+    let cases: [(&[u8], usize); 15] = [
         (
             b"UPSERT INTO d.t VALUES (9223372036854775807, -9223372036854775808)",
             COMMAND,
@@ -185,6 +215,16 @@ fn lines_of_rows(rt: HostRuntime) {
         (b"UPSERT INTO d.t VALUES (x'00'x'11')", 30),
         (b"UPSERT INTO d.t VALUES (xx'00')", 25),
         (b"x'00'", 1),
+    ];
+    for (line, wanted) in cases.iter() {
+        let found = column(&rt, line, false);
+        assert_eq!(rt; found, *wanted);
+    }
+}
+
+#[test]
+fn lines_of_scans(rt: HostRuntime) {
+    let cases: [(&[u8], usize); 15] = [
         (b"SELECT * FROM d.t", COMMAND),
         (b"select*from D.T;", COMMAND),
         (b"SELECT d.t", 8),
