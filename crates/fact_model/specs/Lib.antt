@@ -1,3 +1,4 @@
 pub mod Ordered
 pub mod Facts
 pub mod Scans
+pub mod Listed
