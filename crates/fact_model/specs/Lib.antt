@@ -1,7 +1,7 @@
 pub mod Ordered
 pub mod Facts
 pub mod Scans
+pub mod Listed
 pub mod Joined
 pub mod Mapped
-pub mod Brief
 pub mod Laws

@@ -1,0 +1,6 @@
+//! Range deletions of keys.
+#![tactic(auto)]
+
+mod upto;
+
+pub use upto::Upto;
