@@ -1,0 +1,5 @@
+pub mod Bytes
+pub mod Places
+pub mod Walks
+pub mod Held
+pub mod Collects
