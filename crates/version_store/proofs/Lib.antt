@@ -3,3 +3,4 @@ pub mod Places
 pub mod Walks
 pub mod Held
 pub mod Collects
+pub mod Replays
