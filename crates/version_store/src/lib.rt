@@ -13,3 +13,6 @@ pub use calls::{VersionAnswer, VersionCall};
 pub use fact_list::FactList;
 pub use replaying::replay;
 pub use versions::Versions;
+
+#[cfg(test)]
+mod tests;
