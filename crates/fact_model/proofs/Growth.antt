@@ -70,6 +70,7 @@ module _ {K V : Type 0} (cmp : K → K → Ordering) where
             by : (b : Bool) → p x ≡ b → filter p xs ≡ [] → cond b (x ∷ filter p xs) (filter p xs) ≡ []
             by true e more = absurd (times.lt-le-absurd g (date x) (later x e) (all x (inl refl)))
             by false e more = more
+
         on : (xs : List (Fact K V)) → filter p (after g xs) ≡ filter p xs
         on [] = refl
         on (x ∷ xs) = by (time_lt g (date x)) refl (p x) refl (on xs)

@@ -53,11 +53,7 @@ pub fn date_of(fact: &Entry) -> Hlc
 pub fn is_point(fact: &Entry) -> bool
     ensures { result ≡ is_point (fact_of fact.now) }
 {
-    match fact {
-        Entry::Put { .. } => true,
-        Entry::Del { .. } => true,
-        Entry::Range { .. } => false,
-    }
+    !matches!(fact, Entry::Range { .. })
 }
 
 pub fn touches(fact: &Entry, key: &[u8]) -> bool
