@@ -180,6 +180,7 @@ impl Cluster {
         key: &[(Name, bool)],
         references: &[(Name, Name)],
     ) -> Result<Response, Memory>
+        requires { 0 < length key.now }
         ensures { IfOk result (λ r. stepped self.new r ≡ create_table self.old name.now columns.now key.now references.now) }
     {
         let Some(at) = self.clock.next() else {

@@ -1,7 +1,7 @@
 //! Commands.
 use mvcc_keys::{Hlc, Items};
 use row_codec::{Kind, Row};
-use table_descriptors::Name;
+use table_descriptors::{KeyNames, Name};
 
 /// The database and the name of a table.
 pub type Tbl = (Name, Name);
@@ -22,7 +22,7 @@ pub enum Command {
     CreateTable {
         table: Tbl,
         columns: Items<(Name, Kind)>,
-        key: Items<(Name, bool)>,
+        key: KeyNames,
         references: Items<Tbl>,
     },
     Upsert {

@@ -12,7 +12,7 @@ use script_grammar::{
     table, word,
 };
 use std::alloc::Global;
-use table_descriptors::Name;
+use table_descriptors::{KeyNames, Name};
 
 #[tactic(auto, unfolding(crate::specs::Forms::cluster))]
 fn cluster(alloc: Global, tokens: &[Token]) -> Result<Name, Broken>
@@ -43,7 +43,7 @@ fn create_database(alloc: Global, tokens: &[Token]) -> Result<Name, Broken>
 }
 
 /// A new table with its columns, its key and the tables that it references.
-type NewTable = (Tbl, Items<(Name, Kind)>, Items<(Name, bool)>, Items<Tbl>);
+type NewTable = (Tbl, Items<(Name, Kind)>, KeyNames, Items<Tbl>);
 
 #[tactic(auto, unfolding(crate::specs::Forms::create_table))]
 fn create_table(alloc: Global, tokens: &[Token]) -> Result<NewTable, Broken>

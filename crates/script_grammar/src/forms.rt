@@ -1,5 +1,5 @@
 //! What forms of lines are made of: words, marks, lists, ends, and the farther of two faults.
-ghost use Rattle.std.specs.Prelude.{◌≡◌, Bool, List, length, [], ◌∷◌, ◌++◌, IfOk, OnOk};
+ghost use Rattle.std.specs.Prelude.{◌≡◌, Bool, List, length, [], ◌∷◌, ◌++◌, ◌<◌, IfOk, OnOk};
 ghost use Rattle.std.specs.Str.{bytes_eq};
 ghost use Rattle.script_grammar.specs.Grammar.{Gives, Progress, farthest, word, is_word, mark, is_mark, begins_with, read_within, read_next, read_listed, ending};
 ghost use Rattle.script_grammar.specs.declared.token.Token.{Token};
@@ -143,7 +143,8 @@ pub(crate) fn with_first<T: Drop>(first: T, others: Vec<T>) -> Result<Vec<T>, Me
 
 /// A list with commas.
 pub fn listed<I: Item>(alloc: Global, tokens: &[Token]) -> Result<(Vec<I::Value>, &[Token]), Broken>
-    ensures { Gives (λ x. x.0.items) (λ x. x.1.now) result (read_listed I.reads tokens.now) }
+    ensures read { Gives (λ x. x.0.items) (λ x. x.1.now) result (read_listed I.reads tokens.now) }
+    ensures some { IfOk result (λ x. 0 < length x.0.items) }
 {
     let (first, rest) = I::read(alloc, tokens)?;
     let (others, rest) = repeated::<Next<I>>(alloc, rest)?;

@@ -10,7 +10,7 @@ use crate::{Broken, Token};
 use mvcc_keys::{Hlc, Items, Memory, parse_time};
 use row_codec::{Datum, Kind, Row};
 use std::alloc::Global;
-use table_descriptors::Name;
+use table_descriptors::{KeyNames, Name};
 
 /// Any word.
 pub fn name(alloc: Global, tokens: &[Token]) -> Result<(Name, &[Token]), Broken>
@@ -328,7 +328,7 @@ impl Item for EachKeyColumn {
 
 /// `PRIMARY KEY` and its columns in brackets.
 #[tactic(auto, unfolding(crate::specs::Parts::key))]
-pub fn key(alloc: Global, tokens: &[Token]) -> Result<(Items<(Name, bool)>, &[Token]), Broken>
+pub fn key(alloc: Global, tokens: &[Token]) -> Result<(KeyNames, &[Token]), Broken>
     ensures { Gives (λ x. x.0) (λ x. x.1.now) result (key.read tokens.now) }
 {
     let rest = word(b"primary", tokens)?;
@@ -336,7 +336,7 @@ pub fn key(alloc: Global, tokens: &[Token]) -> Result<(Items<(Name, bool)>, &[To
     let rest = mark(b'(', rest)?;
     let (columns, rest) = listed::<EachKeyColumn>(alloc, rest)?;
     let rest = mark(b')', rest)?;
-    Ok((Items::from_vec(columns), rest))
+    Ok((KeyNames::from_vec(columns), rest))
 }
 
 #[derive(Drop)]

@@ -1,3 +1,5 @@
 pub mod Names
+pub mod Fields
 pub mod Descriptors
+pub mod DescriptorFiles
 pub mod DescriptorView

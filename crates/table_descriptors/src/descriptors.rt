@@ -1,6 +1,9 @@
 //! Descriptors of tables.
-ghost use Rattle.std.specs.Prelude.{◌≡◌, ◌+◌, ◌<◌, ◌≤◌, Some, None, length, IfOk, IfErr, IfSome, OnOk, map, filter};
-ghost use Rattle.table_descriptors.specs.Descriptors.{numbered, place_of, id_of, key_ids, down_ids, new_schema, bad_schema, FaultOf, turned, has_id, kind_of, key_kind, key_kinds};
+ghost use Rattle.std.specs.Prelude.{◌≡◌, ◌+◌, ◌<◌, ◌≤◌, true, Some, None, length, IfOk, IfErr, IfSome, OnOk, map, filter};
+ghost use Rattle.std.specs.List.{list_all};
+ghost use Rattle.mvcc_keys.specs.Times.{IsTime};
+ghost use Rattle.table_descriptors.specs.Names.{is_name};
+ghost use Rattle.table_descriptors.specs.Descriptors.{upright, numbered, place_of, id_of, key_ids, down_ids, new_schema, bad_schema, FaultOf, turned, has_id, kind_of, key_kind, key_kinds};
 
 use crate::columns::{Column, State};
 use crate::faults::SchemaFault;
@@ -14,17 +17,17 @@ use std::marker::Model;
 /// A table as it is from its date on.
 #[derive(Debug, Drop)]
 pub struct Descriptor {
-    id: u32,
-    version: u32,
-    database: Name,
-    name: Name,
-    state: State,
-    columns: Vec<Column>,
-    key_columns: Vec<u32>,
-    references: Vec<u32>,
-    next_column: u32,
-    modified: Hlc,
-    down: Vec<u32>,
+    pub(crate) id: u32,
+    pub(crate) version: u32,
+    pub(crate) database: Name,
+    pub(crate) name: Name,
+    pub(crate) state: State,
+    pub(crate) columns: Vec<Column>,
+    pub(crate) key_columns: Vec<u32>,
+    pub(crate) references: Vec<u32>,
+    pub(crate) next_column: u32,
+    pub(crate) modified: Hlc,
+    pub(crate) down: Vec<u32>,
 }
 
 impl Model for Descriptor {
@@ -35,18 +38,35 @@ impl Model for Descriptor {
     ghost use Rattle.table_descriptors.specs.DescriptorView.{view_of};
 
     ghost view = { view_of };
+
+    ghost use Rattle.table_descriptors.specs.Descriptors.{IsProperSchema};
+
+    ghost invariant = { λ d. IsProperSchema (view_of d) };
+}
+
+/// A kind without its direction, which only key columns have.
+pub(crate) fn upright(kind: Kind) -> Kind
+    ensures { result ≡ upright kind }
+{
+    match kind {
+        Kind::Int | Kind::IntDown => Kind::Int,
+        Kind::Text | Kind::TextDown => Kind::Text,
+        Kind::Bytes | Kind::BytesDown => Kind::Bytes,
+        Kind::Bool | Kind::BoolDown => Kind::Bool,
+    }
 }
 
 /// The columns of a new table, with ids from 1 on.
 fn numbered(alloc: Global, columns: &[(Name, Kind)]) -> Result<Vec<Column>, Memory>
     requires { length columns.now ≤ 64 }
-    ensures { IfOk result (λ v. v.items ≡ numbered 1 columns.now) }
+    ensures made { IfOk result (λ v. v.items ≡ numbered 1 columns.now) }
+    ensures named { IfOk result (λ v. list_all (λ c. is_name c.name) v.items ≡ true) }
 {
     let mut made = Vec::new(alloc);
     let mut id: u32 = 1;
     for column in columns {
         let name = column.0.copy(alloc)?;
-        let kind = column.1;
+        let kind = upright(column.1);
         made.push(Column { id, name, kind })?;
         id += 1;
     }
@@ -116,6 +136,16 @@ fn kind_of(columns: &[Column], id: u32) -> Kind
     }
 }
 
+/// A time as it is, of which its type is told.
+pub(crate) fn a_time(t: Hlc) -> Hlc
+    ensures same { result ≡ t }
+    ensures form { IsTime result }
+{
+    let _wall = t.wall();
+    let _counter = t.logical();
+    t
+}
+
 /// The first descriptor of a table that breaks no rule.
 #[tactic(auto, unfolding(crate::specs::Descriptors::new_schema))]
 fn first_descriptor(
@@ -128,7 +158,9 @@ fn first_descriptor(
     references: &[u32],
     at: Hlc,
 ) -> Result<Descriptor, Memory>
-    requires { length columns.now ≤ 64 }
+    requires allowed { bad_schema columns.now key.now references.now ≡ None }
+    requires few { length columns.now ≤ 64 }
+    requires some { 0 < length key.now }
     ensures { IfOk result (λ d. d ≡ new_schema id database.now name.now columns.now key.now references.now at) }
 {
     Ok(Descriptor {
@@ -141,7 +173,7 @@ fn first_descriptor(
         key_columns: key_ids(alloc, columns, key)?,
         references: Vec::from_slice(alloc, references)?,
         next_column: columns.len() as u32 + 1,
-        modified: at,
+        modified: a_time(at),
         down: down_ids(alloc, columns, key)?,
     })
 }
@@ -159,6 +191,7 @@ impl Descriptor {
         references: &[u32],
         at: Hlc,
     ) -> Result<Descriptor, SchemaFault>
+        requires { 0 < length key.now }
         ensures made { IfOk result (λ d. d ≡ new_schema id database.now name.now columns.now key.now references.now at) }
         ensures allowed { OnOk result (bad_schema columns.now key.now references.now ≡ None) }
         ensures fault { IfErr result (λ e. FaultOf e (bad_schema columns.now key.now references.now)) }

@@ -2,17 +2,32 @@
 #![tactic(auto)]
 
 mod changes;
+mod changing;
 mod columns;
+mod descriptor_files;
 mod descriptors;
 mod faults;
+mod fields;
+mod key_names;
 mod names;
 mod rules;
 mod scopes;
 
 pub use changes::Change;
 pub use columns::{Column, State};
+pub use descriptor_files::{
+    descriptors_are_exact, read_descriptor, take_descriptor, write_descriptor,
+};
 pub use descriptors::Descriptor;
 pub use faults::SchemaFault;
+pub use fields::{
+    FieldFault, broken, put_number, put_sized, take_byte, take_count, take_exactly, take_flag,
+    take_id, take_name, take_number, take_sized, take_time,
+};
+pub use key_names::KeyNames;
 pub use names::Name;
 pub use rules::broken_rule;
 pub use scopes::Scope;
+
+#[cfg(test)]
+mod tests;

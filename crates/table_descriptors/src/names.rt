@@ -78,7 +78,8 @@ impl Name {
     }
 
     pub fn copy(&self, alloc: Global) -> Result<Name, Memory>
-        ensures { IfOk result (λ n. n ≡ self.now) }
+        ensures same { IfOk result (λ n. n ≡ self.now) }
+        ensures form { IfOk result (λ n. is_name n ≡ true) }
     {
         Ok(Name {
             text: String::from_str(alloc, self.text.as_str())?,
