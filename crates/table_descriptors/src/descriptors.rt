@@ -3,7 +3,7 @@ ghost use Rattle.std.specs.Prelude.{◌≡◌, ◌+◌, ◌<◌, ◌≤◌, true
 ghost use Rattle.std.specs.List.{list_all};
 ghost use Rattle.mvcc_keys.specs.Times.{IsTime};
 ghost use Rattle.table_descriptors.specs.Names.{is_name};
-ghost use Rattle.table_descriptors.specs.Descriptors.{upright, numbered, place_of, id_of, key_ids, down_ids, new_schema, bad_schema, FaultOf, turned, has_id, kind_of, key_kind, key_kinds};
+ghost use Rattle.table_descriptors.specs.Descriptors.{IsProperSchema, upright, numbered, place_of, id_of, key_ids, down_ids, new_schema, bad_schema, FaultOf, turned, has_id, kind_of, key_kind, key_kinds};
 
 use crate::columns::{Column, State};
 use crate::faults::SchemaFault;
@@ -232,8 +232,10 @@ impl Descriptor {
         self.state
     }
 
+    /// The columns by id. The clause says beside it what every descriptor is.
     pub fn columns(&self) -> &[Column]
-        ensures { result.now ≡ self.now.columns }
+        ensures columns { result.now ≡ self.now.columns }
+        ensures proper { IsProperSchema self.now }
     {
         self.columns.as_slice()
     }
