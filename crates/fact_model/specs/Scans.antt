@@ -1,12 +1,11 @@
 -- The visible rows as of a time.
-use Rattle.std.specs.Prelude.{◌≡◌, ℕ, Bool, true, false, cond, ◌&&◌, List, [], ◌∷◌, ◌++◌, Option, Some, None, filter, map, ◌↔◌}
+use Rattle.std.specs.Prelude.{◌≡◌, List, [], ◌∷◌, ◌++◌, Option, Some, None, map, ◌↔◌}
 use Rattle.std.specs.declared.cmp.Ordering.{Ordering}
-use Rattle.std.specs.declared.cmp.Ordering.TheVariants.{Less, Equal, Greater}
 use Rattle.std.specs.Ordering.{on}
 use Rattle.std.specs.List.Sorted.{IsStrictlySortedBy}
-use Rattle.mvcc_keys.specs.Times.{Time, time_lt, time_le}
+use Rattle.mvcc_keys.specs.Times.{Time}
 use Rattle.fact_model.specs.Ordered.{ordered}
-use Rattle.fact_model.specs.Facts.{Fact, Put, Del, DelRange, Has, value, Version, after, upto}
+use Rattle.fact_model.specs.Facts.{Fact, Put, Del, DelRange, Has, value, Version, after}
 
 pub record Item (K V : Type 0) : Type 0 where
   pub key : K

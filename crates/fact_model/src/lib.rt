@@ -1,2 +1,6 @@
 //! Dated facts over any keys and values: definitions that the store and the machine share.
 #![tactic(auto)]
+
+mod laws;
+
+pub use laws::{kept_once_more, kept_suffices, maps_carry, order_is_free};

@@ -1,0 +1,24 @@
+//! What holds of dated facts.
+ghost use Rattle.fact_model.specs.Laws.{KeptSuffices, KeptOnceMore, OrderIsFree, MapsCarry};
+
+/// A law: what is kept when the history up to a time is collected says of that time and each
+/// later one what all facts say.
+pub fn kept_suffices<K, V>()
+    ensures { KeptSuffices K V }
+{}
+
+/// A law: collecting twice is collecting once, to the later time.
+pub fn kept_once_more<K, V>()
+    ensures { KeptOnceMore K V }
+{}
+
+/// A law: the order in which facts stand says nothing.
+pub fn order_is_free<K, V>()
+    ensures { OrderIsFree K V }
+{}
+
+/// A law: under a map of keys that keeps their order, and any map of values, values, scans and
+/// what is kept are those of the facts before, mapped.
+pub fn maps_carry<K, L, V, W>()
+    ensures { MapsCarry K L V W }
+{}
