@@ -1,5 +1,5 @@
 -- What a store holds after one more fact, and after a second collection.
-use Rattle.std.proofs.Common.{◌≡◌, Bool, true, false, cond, sym, refl, ap, ap₂, ◌∙◌, subst, ◌&&◌, List, [], ◌∷◌, ◌++◌, Option, Some, None, inl, inr, map, Ordering, true≢false, append_assoc}
+use Rattle.std.proofs.Common.{◌≡◌, Bool, true, false, cond, sym, refl, ap, ap₂, ◌∙◌, subst, ◌&&◌, List, [], ◌∷◌, ◌++◌, Option, Some, None, inl, inr, map, filter, Ordering, true≢false, append_assoc}
 use Rattle.std.proofs.lemmas.List.Elements.{filter-append}
 use Rattle.mvcc_keys.specs.Times.{Time, time_lt, time_le}
 use Rattle.fact_model.specs.Facts.{Fact, date, touches, later, newest, version_of, value, Has, IsApart, IsKeyOrder, after}
@@ -57,3 +57,26 @@ module _ {K V : Type 0} (cmp : K → K → Ordering) where
 
         afters : after s (kept cmp g fs) ≡ after s fs
         afters = rw (filter-append (λ (x : Fact K V). time_lt s (date x)) (image cmp g fs) (after g fs), no-later g s (image cmp g fs) (image-dated g fs) le) (after-after g s fs le)
+
+    -- what is dated after a collection is all there
+    pub kept-later : (g : Time) (p : Fact K V → Bool) (fs : List (Fact K V)) → ((f : Fact K V) → p f ≡ true → time_lt g (date f) ≡ true) → filter p (kept cmp g fs) ≡ filter p fs
+    unfolding kept
+    kept-later g p fs later = filter-append p (image cmp g fs) (after g fs) ∙ ap₂ (λ (x y : List (Fact K V)). x ++ y) (off (image cmp g fs) (image-dated g fs)) (on fs)
+      where
+        off : (xs : List (Fact K V)) → ((f : Fact K V) → Has f xs → time_le (date f) g ≡ true) → filter p xs ≡ []
+        off [] all = refl
+        off (x ∷ xs) all = by (p x) refl (off xs (λ f i. all f (inr i)))
+          where
+            by : (b : Bool) → p x ≡ b → filter p xs ≡ [] → cond b (x ∷ filter p xs) (filter p xs) ≡ []
+            by true e more = absurd (times.lt-le-absurd g (date x) (later x e) (all x (inl refl)))
+            by false e more = more
+
+        on : (xs : List (Fact K V)) → filter p (after g xs) ≡ filter p xs
+        on [] = refl
+        on (x ∷ xs) = by (time_lt g (date x)) refl (p x) refl (on xs)
+          where
+            by : (a : Bool) → time_lt g (date x) ≡ a → (b : Bool) → p x ≡ b → filter p (after g xs) ≡ filter p xs → filter p (cond a (x ∷ after g xs) (after g xs)) ≡ cond b (x ∷ filter p xs) (filter p xs)
+            by true e true q more = rw q (ap (λ (ys : List (Fact K V)). x ∷ ys) more)
+            by true e false q more = rw q more
+            by false e true q more = absurd (true≢false (sym (later x q) ∙ e))
+            by false e false q more = more

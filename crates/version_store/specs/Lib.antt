@@ -1,1 +1,4 @@
 pub mod Tables
+pub mod Lists
+pub mod Holding
+pub mod Calls

@@ -36,7 +36,14 @@ pub trait Versions {
 
     /// The first `n` puts and deletions after a place, by key and newest first, of those dated
     /// after `from` and within `upto`, where `from` isn't before the threshold.
-    fn events(&self, table: u32, from: Hlc, upto: Upto, after: &Option<(Blob, Hlc)>, n: usize) -> Result<Vec<Entry>, Memory>
+    fn events(
+        &self,
+        table: u32,
+        from: Hlc,
+        upto: Upto,
+        after: &Option<(Blob, Hlc)>,
+        n: usize,
+    ) -> Result<Vec<Entry>, Memory>
         ensures { IfOk result (λ seen. (h : Tables) → stands self.now h → time_le (h.threshold table) from ≡ true → seen.items ≡ events_at h table from upto after.now n) };
 
     /// The range deletions dated after `from` and within `upto`, by date, where `from` isn't
