@@ -1,5 +1,7 @@
 //! Range deletions as pieces of the key space.
 ghost use Rattle.std.specs.Prelude.{◌≡◌, [], true, false, map, IfOk, OnOk, OnErr};
+ghost use Rattle.mvcc_keys.specs.Times.{time_lt};
+ghost use Rattle.range_tombstones.specs.Dates.{Ascends};
 ghost use Rattle.range_tombstones.specs.Ranges.{bytes_lt, entry_of, is_dated, newest_cover, range, ranges_after, ranges_between, with_range};
 
 use crate::piece::Piece;
@@ -66,7 +68,8 @@ impl Fragments {
 
     /// The range deletions dated after a time and in an interval, by date, as they were added.
     pub fn originals(&self, from: Hlc, upto: Upto) -> Result<Vec<Entry>, Memory>
-        ensures { IfOk result (λ es. es.items ≡ map entry_of (ranges_between from upto self.now)) }
+        ensures listed { IfOk result (λ es. es.items ≡ map entry_of (ranges_between from upto self.now)) }
+        ensures by_date { Ascends (λ r s. time_lt r.at s.at) self.now }
     {
         let alloc = *self.pieces.allocator();
         let dates = pieces::all_dates(alloc, self.pieces.as_slice())?;
