@@ -27,7 +27,7 @@ use Rattle.version_store.proofs.Bytes.{bytes_order, id-turned, id-same, filter-m
 -- ---- one fact more
 
 -- a fact that no other of its date meets lies apart from the others
-apart-push : (fs : List ByteFact) (f : ByteFact) → IsApart bytes_cmp fs → ((k : Bytes) (g : ByteFact) → Has g fs → touches bytes_cmp k g ≡ true → touches bytes_cmp k f ≡ true → date g ≢ date f) → IsApart bytes_cmp (fs ++ f ∷ [])
+pub apart-push : (fs : List ByteFact) (f : ByteFact) → IsApart bytes_cmp fs → ((k : Bytes) (g : ByteFact) → Has g fs → touches bytes_cmp k g ≡ true → touches bytes_cmp k f ≡ true → date g ≢ date f) → IsApart bytes_cmp (fs ++ f ∷ [])
 apart-push fs f a fresh = record { apart = λ k g h i j p q e. by k g h p q e (members.has-append_cases g fs (f ∷ []) i) (members.has-append_cases h fs (f ∷ []) j) }
   where
     touch : (k : Bytes) (x : ByteFact) → x ≡ f → touches bytes_cmp k x ≡ true → touches bytes_cmp k f ≡ true
@@ -42,7 +42,7 @@ apart-push fs f a fresh = record { apart = λ k g h i j p q e. by k g h p q e (m
     by k g h p q e (inr (inl x)) (inr (inr y)) = absurd y
     by k g h p q e (inr (inr x)) j = absurd x
 
-own-key : (id : ℕ) (f : ByteFact) → IsOfTable id f → table_of (key_of f) ≡ Some id
+pub own-key : (id : ℕ) (f : ByteFact) → IsOfTable id f → table_of (key_of f) ≡ Some id
 own-key id (Fact.Put k v t) o = o
 own-key id (Fact.Del k t) o = o
 own-key id (Fact.DelRange lo hi t) o = o.0

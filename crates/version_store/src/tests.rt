@@ -160,7 +160,10 @@ fn is_answered<V: Versions>(alloc: Global, store: &mut V, lines: &[Line]) -> Res
 
 /// Whether each store gives these answers.
 fn are_answered(alloc: Global, lines: &[Line]) -> Result<bool, Memory> {
-    Ok(is_answered(alloc, &mut FactList::new(alloc), lines)?)
+    Ok(
+        is_answered(alloc, &mut FactList::new(alloc), lines)?
+            && is_answered(alloc, &mut MvccMap::new(alloc), lines)?,
+    )
 }
 
 #[test]
