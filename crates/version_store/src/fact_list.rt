@@ -133,4 +133,6 @@ impl Versions for FactList {
     fn threshold(&self, table: u32) -> Hlc {
         threshold_of(self.thresholds.as_slice(), table)
     }
+
+    ghost apart = { λ s h id held. (held.tables id).apart };
 }

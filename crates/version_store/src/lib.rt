@@ -4,6 +4,7 @@
 mod calls;
 mod entries;
 mod fact_list;
+mod laws;
 mod listings;
 mod mvcc_map;
 mod replaying;
@@ -15,6 +16,7 @@ mod walk;
 
 pub use calls::{VersionAnswer, VersionCall};
 pub use fact_list::FactList;
+pub use laws::keys_are_ordered;
 pub use mvcc_map::MvccMap;
 pub use replaying::replay;
 pub use versions::Versions;

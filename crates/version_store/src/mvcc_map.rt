@@ -148,4 +148,6 @@ impl Versions for MvccMap {
             None => Hlc::zero(),
         }
     }
+
+    ghost apart = { λ s h id held. (held.table id).apart };
 }

@@ -1,8 +1,8 @@
 //! What a store of versions does.
 ghost use Rattle.std.specs.Prelude.{◌≡◌, ℕ, true, Some, IfOk, OnOk, OnErr, option_map};
 ghost use Rattle.mvcc_keys.specs.Times.{time_le};
-ghost use Rattle.fact_model.specs.Facts.{Fact};
-ghost use Rattle.version_store.specs.Tables.{Tables, table_of, with_fact, raised, MayAdd, value_at, scan_at, events_at, ranges_at};
+ghost use Rattle.fact_model.specs.Facts.{Fact, IsApart};
+ghost use Rattle.version_store.specs.Tables.{Tables, bytes_cmp, table_of, with_fact, raised, MayAdd, value_at, scan_at, events_at, ranges_at};
 
 use mvcc_keys::{Blob, Entry, Hlc, Memory};
 use range_tombstones::Upto;
@@ -58,4 +58,7 @@ pub trait Versions {
 
     fn threshold(&self, table: u32) -> Hlc
         ensures { (h : Tables) → stands self.now h → result ≡ h.threshold table };
+
+    /// A law: facts of a table that have one date and touch one key are the same fact.
+    ghost apart: { (store : Self) (h : Tables) (id : ℕ) → stands store h → IsApart bytes_cmp (h.facts id) };
 }
