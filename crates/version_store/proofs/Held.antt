@@ -90,7 +90,7 @@ listed-facts : (l : Listing) (cmp : ByteFact → ByteFact → Ordering) (p : Byt
 unfolding listed
 listed-facts l cmp p id es same test = sym (ap entries_of (ap (ordered cmp) (filter-mapped fact_of p (of_table id es)) ∙ orders.ordered-map (listing_cmp l) cmp fact_of (λ e. Unit {0}) (λ a b x y. same a b) (filter (λ e. p (fact_of e)) (of_table id es)) (λ e x. tt)) ∙ (entries-facts (ordered (listing_cmp l) (filter (λ e. p (fact_of e)) (of_table id es))) ∙ ap (ordered (listing_cmp l)) (filter-both (is_of id) (λ e. p (fact_of e)) es ∙ filter-same (λ e. is_of id e && p (fact_of e)) (λ e. is_of id e && is_listed l e) es (λ e. ap (λ (b : Bool). is_of id e && b) (sym (test e))))))
 
-both : (a b : Bool) → (a && b) ≡ true → (a ≡ true) × (b ≡ true)
+pub both : (a b : Bool) → (a && b) ≡ true → (a ≡ true) × (b ≡ true)
 both true b e = (refl, e)
 both false b e = absurd (true≢false (sym e))
 

@@ -34,6 +34,7 @@ use Rattle.version_store.specs.declared.table_versions.TableVersions.{TableVersi
 use Rattle.version_store.proofs.Bytes.{bytes_order, filter-mapped, filter-both, filter-same}
 use Rattle.version_store.proofs.RowPuts.{held-date, held-key}
 use Rattle.version_store.proofs.RowScans.{map-has, keys-above}
+use Rattle.version_store.proofs.Held.{both}
 use Rattle.version_store.proofs.MapHeld.{own-table}
 
 -- ---- what is put in order is there, where no two elements tie
@@ -124,9 +125,9 @@ ranges-sorted (r ∷ rs) a = (members.AllByRecursion-has (λ (f : ByteFact). dat
 
 -- ---- what is after the threshold
 
-both : (a b : Bool) → (a && b) ≡ true → (a ≡ true) × (b ≡ true)
-both true b e = (refl, e)
-both false b e = absurd (true≢false (sym e))
+-- those in the interval are after the threshold
+later : (threshold from : Time) (upto : Upto) (kind : ByteFact → Bool) → time_le threshold from ≡ true → (x : ByteFact) → (kind x && is_between from upto (date x)) ≡ true → time_lt threshold (date x) ≡ true
+later threshold from upto kind le x e = times.lt-weaker threshold from (date x) le (both (time_lt from (date x)) (within upto (date x)) (both (kind x) (is_between from upto (date x)) e).1).0
 
 held-point : (k : Bytes) (at : Time) (v : Option Bytes) → is_point (held k at v) ≡ true
 held-point k at None = refl
@@ -135,19 +136,13 @@ held-point k at (Some v) = refl
 module _ (t : TableVersions) (threshold from : Time) (upto : Upto) (facts : List ByteFact) (k : KeepsTable (Some t) threshold facts) (le : time_le threshold from ≡ true) where
   -- those of a kind that are held, in the interval
   later-in : (kind : ByteFact → Bool) (f : ByteFact) → Has f (held_facts (Some t)) → kind f ≡ true → is_between from upto (date f) ≡ true → Has f (filter (λ x. kind x && is_between from upto (date x)) facts)
-  later-in kind f h p q = subst (Has f) (growth.kept-later bytes_cmp bytes_order threshold (λ x. kind x && is_between from upto (date x)) facts later) (members.has-filter (λ x. kind x && is_between from upto (date x)) f (kept bytes_cmp threshold facts) (k.only f h) (ap₂ (λ (a b : Bool). a && b) p q))
-    where
-      later : (x : ByteFact) → (kind x && is_between from upto (date x)) ≡ true → time_lt threshold (date x) ≡ true
-      later x e = times.lt-weaker threshold from (date x) le (both (time_lt from (date x)) (within upto (date x)) (both (kind x) (is_between from upto (date x)) e).1).0
+  later-in kind f h p q = subst (Has f) (growth.kept-later bytes_cmp bytes_order threshold (λ x. kind x && is_between from upto (date x)) facts (later threshold from upto kind le)) (members.has-filter (λ x. kind x && is_between from upto (date x)) f (kept bytes_cmp threshold facts) (k.only f h) (ap₂ (λ (a b : Bool). a && b) p q))
 
   in-later : (kind : ByteFact → Bool) (f : ByteFact) → Has f (filter (λ x. kind x && is_between from upto (date x)) facts) → Has f (held_facts (Some t)) × (kind f ≡ true) × (is_between from upto (date f) ≡ true)
   in-later kind f h =
-      let i = subst (Has f) (sym (growth.kept-later bytes_cmp bytes_order threshold (λ x. kind x && is_between from upto (date x)) facts later)) h in
+      let i = subst (Has f) (sym (growth.kept-later bytes_cmp bytes_order threshold (λ x. kind x && is_between from upto (date x)) facts (later threshold from upto kind le))) h in
       let e = both (kind f) (is_between from upto (date f)) (members.filter-passes (λ x. kind x && is_between from upto (date x)) f facts h) in
       (k.found f (members.filter-has (λ x. kind x && is_between from upto (date x)) f (kept bytes_cmp threshold facts) i), e.0, e.1)
-    where
-      later : (x : ByteFact) → (kind x && is_between from upto (date x)) ≡ true → time_lt threshold (date x) ≡ true
-      later x e = times.lt-weaker threshold from (date x) le (both (time_lt from (date x)) (within upto (date x)) (both (kind x) (is_between from upto (date x)) e).1).0
 
   among : (kind : ByteFact → Bool) (f : ByteFact) → Has f (filter (λ x. kind x && is_between from upto (date x)) facts) → Has f facts × (kind f ≡ true)
   among kind f h = (members.filter-has (λ x. kind x && is_between from upto (date x)) f facts h, (in-later kind f h).1)
@@ -260,7 +255,7 @@ found-ranges (Err x) tables id t from upto e up found = tt
 -- ---- a table that isn't there
 
 none-later : (threshold from : Time) (upto : Upto) (facts : List ByteFact) (kind : ByteFact → Bool) → KeepsTable None threshold facts → time_le threshold from ≡ true → filter (λ f. kind f && is_between from upto (date f)) facts ≡ []
-none-later threshold from upto facts kind k le = sym (growth.kept-later bytes_cmp bytes_order threshold (λ f. kind f && is_between from upto (date f)) facts (λ f e. times.lt-weaker threshold from (date f) le (both (time_lt from (date f)) (within upto (date f)) (both (kind f) (is_between from upto (date f)) e).1).0)) ∙ ap (filter (λ f. kind f && is_between from upto (date f))) (empty (kept bytes_cmp threshold facts) k.found)
+none-later threshold from upto facts kind k le = sym (growth.kept-later bytes_cmp bytes_order threshold (λ f. kind f && is_between from upto (date f)) facts (later threshold from upto kind le)) ∙ ap (filter (λ f. kind f && is_between from upto (date f))) (empty (kept bytes_cmp threshold facts) k.found)
   where
     empty : (fs : List ByteFact) → AllIn fs [] → fs ≡ []
     empty [] h = refl

@@ -52,10 +52,6 @@ newer-bound t (v ∷ vs) = by (time_lt t v.at) (newer-bound t vs)
     by true more = omega arith
     by false more = omega arith
 
--- the branch that was taken
-pub taken : {X : Type 0} (b r : Bool) (s xs ys : List X) → r ≡ false → b ≡ not r → s ≡ cond b xs ys → s ≡ xs
-taken b r s xs ys f n e = rw (n, f) at e
-
 -- ---- one row's events
 
 pub events-more : (p : Bytes → Time → Bool) (k : Bytes) (vs : List Version) (i : ℕ) (v : Version) (old new whole : List Entry) → i < length vs → v ≡ get_or vs i v → new ≡ old ++ row_events p k (v ∷ []) → old ++ row_events p k (drop i vs) ≡ whole → new ++ row_events p k (drop (i + 1) vs) ≡ whole
