@@ -50,6 +50,8 @@ impl MvccMap {
         }
     }
 
+    /// Puts a version into its table. A key in front of which no id is spelled has none, and is
+    /// left out.
     fn add(&mut self, key: &[u8], version: Version) -> Result<(), Memory>
         ensures added { OnOk result ((h : Tables) (id : ℕ) → KeepsAll self.old.tables.entries h → MayAdd h id (version_fact key.now version) → KeepsAll self.new.tables.entries (with_fact id (version_fact key.now version) h)) }
         ensures kept { OnErr result ((h : Tables) → KeepsAll self.old.tables.entries h → KeepsAll self.new.tables.entries h) }
