@@ -1,1 +1,4 @@
 pub mod Intervals
+pub mod Dates
+pub mod Ranges
+pub mod Pieces

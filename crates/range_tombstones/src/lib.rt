@@ -1,6 +1,15 @@
 //! Range deletions of keys.
 #![tactic(auto)]
 
+mod changes;
+mod dates;
+mod fragments;
+mod piece;
+mod pieces;
 mod upto;
 
+pub use fragments::Fragments;
 pub use upto::Upto;
+
+#[cfg(test)]
+mod tests;

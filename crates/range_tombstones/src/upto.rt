@@ -1,6 +1,6 @@
 //! Where an interval of times ends.
 ghost use Rattle.std.specs.Prelude.{◌≡◌};
-ghost use Rattle.range_tombstones.specs.Intervals.{within};
+ghost use Rattle.range_tombstones.specs.Intervals.{is_between, within};
 
 use mvcc_keys::Hlc;
 
@@ -21,4 +21,11 @@ impl Upto {
             Upto::Before(end) => t < end,
         }
     }
+}
+
+/// Whether a time is after one and in an interval.
+pub(crate) fn is_between(from: Hlc, upto: &Upto, t: Hlc) -> bool
+    ensures { result ≡ is_between from upto.now t }
+{
+    from < t && upto.holds(t)
 }

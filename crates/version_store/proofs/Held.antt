@@ -27,7 +27,7 @@ use Rattle.version_store.proofs.Bytes.{bytes_order, id-turned, id-same, filter-m
 -- ---- one fact more
 
 -- a fact that no other of its date meets lies apart from the others
-apart-push : (fs : List ByteFact) (f : ByteFact) → IsApart bytes_cmp fs → ((k : Bytes) (g : ByteFact) → Has g fs → touches bytes_cmp k g ≡ true → touches bytes_cmp k f ≡ true → date g ≢ date f) → IsApart bytes_cmp (fs ++ f ∷ [])
+pub apart-push : (fs : List ByteFact) (f : ByteFact) → IsApart bytes_cmp fs → ((k : Bytes) (g : ByteFact) → Has g fs → touches bytes_cmp k g ≡ true → touches bytes_cmp k f ≡ true → date g ≢ date f) → IsApart bytes_cmp (fs ++ f ∷ [])
 apart-push fs f a fresh = record { apart = λ k g h i j p q e. by k g h p q e (members.has-append_cases g fs (f ∷ []) i) (members.has-append_cases h fs (f ∷ []) j) }
   where
     touch : (k : Bytes) (x : ByteFact) → x ≡ f → touches bytes_cmp k x ≡ true → touches bytes_cmp k f ≡ true
@@ -42,7 +42,7 @@ apart-push fs f a fresh = record { apart = λ k g h i j p q e. by k g h p q e (m
     by k g h p q e (inr (inl x)) (inr (inr y)) = absurd y
     by k g h p q e (inr (inr x)) j = absurd x
 
-own-key : (id : ℕ) (f : ByteFact) → IsOfTable id f → table_of (key_of f) ≡ Some id
+pub own-key : (id : ℕ) (f : ByteFact) → IsOfTable id f → table_of (key_of f) ≡ Some id
 own-key id (Fact.Put k v t) o = o
 own-key id (Fact.Del k t) o = o
 own-key id (Fact.DelRange lo hi t) o = o.0
@@ -90,7 +90,7 @@ listed-facts : (l : Listing) (cmp : ByteFact → ByteFact → Ordering) (p : Byt
 unfolding listed
 listed-facts l cmp p id es same test = sym (ap entries_of (ap (ordered cmp) (filter-mapped fact_of p (of_table id es)) ∙ orders.ordered-map (listing_cmp l) cmp fact_of (λ e. Unit {0}) (λ a b x y. same a b) (filter (λ e. p (fact_of e)) (of_table id es)) (λ e x. tt)) ∙ (entries-facts (ordered (listing_cmp l) (filter (λ e. p (fact_of e)) (of_table id es))) ∙ ap (ordered (listing_cmp l)) (filter-both (is_of id) (λ e. p (fact_of e)) es ∙ filter-same (λ e. is_of id e && p (fact_of e)) (λ e. is_of id e && is_listed l e) es (λ e. ap (λ (b : Bool). is_of id e && b) (sym (test e))))))
 
-both : (a b : Bool) → (a && b) ≡ true → (a ≡ true) × (b ≡ true)
+pub both : (a b : Bool) → (a && b) ≡ true → (a ≡ true) × (b ≡ true)
 both true b e = (refl, e)
 both false b e = absurd (true≢false (sym e))
 

@@ -4,3 +4,9 @@ pub mod Walks
 pub mod Held
 pub mod Collects
 pub mod Replays
+pub mod RowChanges
+pub mod RowPuts
+pub mod RowScans
+pub mod MapHeld
+pub mod MapLists
+pub mod MapCollects

@@ -35,7 +35,7 @@ keys_of es = map (λ e. key_of (fact_of e)) es
 abbrev pub seen_of : (Bytes → Option (Version Bytes)) → List Bytes → List Entry
 seen_of shown ks = entries_of (map put_of (items shown ks))
 
-seen-from : (shown : Bytes → Option (Version Bytes)) (k : Bytes) (ks : List Bytes) → seen_of shown (k ∷ ks) ≡ seen_item k (shown k) ++ seen_of shown ks
+pub seen-from : (shown : Bytes → Option (Version Bytes)) (k : Bytes) (ks : List Bytes) → seen_of shown (k ∷ ks) ≡ seen_item k (shown k) ++ seen_of shown ks
 unfolding items
 seen-from shown k ks = by (shown k)
   where

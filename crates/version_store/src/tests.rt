@@ -160,7 +160,10 @@ fn is_answered<V: Versions>(alloc: Global, store: &mut V, lines: &[Line]) -> Res
 
 /// Whether each store gives these answers.
 fn are_answered(alloc: Global, lines: &[Line]) -> Result<bool, Memory> {
-    Ok(is_answered(alloc, &mut FactList::new(alloc), lines)?)
+    Ok(
+        is_answered(alloc, &mut FactList::new(alloc), lines)?
+            && is_answered(alloc, &mut MvccMap::new(alloc), lines)?,
+    )
 }
 
 #[test]
@@ -227,5 +230,33 @@ fn ranges_of_keys(rt: HostRuntime) -> Result<(), Fail> {
         (b's', 0, 0, 6, b"scan 5=y@5"),
     ];
     assert!(rt; are_answered(rt.alloc(), &lines) == Ok(true));
+    Ok(())
+}
+
+/// Keys of tables 100 and 101, with facts of one date in both.
+fn tables_are_apart<V: Versions>(store: &mut V) -> Result<bool, Memory> {
+    store.put(&[0xec, 1], at(1), b"a")?;
+    store.put(&[0xed, 1], at(1), b"b")?;
+    store.delete_range(&[0xec], &[0xec, 9], at(2))?;
+    store.delete_range(&[0xed, 2], &[0xed, 9], at(2))?;
+    store.collect(101, at(1))?;
+    let all = Upto::At(at(9));
+    Ok(
+        store.scan_as_of(100, at(2))?.is_empty()
+            && store.scan_as_of(100, at(1))?.len() == 1
+            && store.scan_as_of(101, at(2))?.len() == 1
+            && store.get_as_of(&[0xed, 1], at(3)) == Some(b"b".as_slice())
+            && store.ranges(100, at(1), all)?.len() == 1
+            && store.ranges(101, at(1), all)?.len() == 1
+            && store.ranges(102, at(1), all)?.is_empty()
+            && store.threshold(100) == Hlc::zero()
+            && store.threshold(101) == at(1),
+    )
+}
+
+#[test]
+fn several_tables(rt: HostRuntime) -> Result<(), Fail> {
+    assert!(rt; tables_are_apart(&mut FactList::new(rt.alloc())) == Ok(true));
+    assert!(rt; tables_are_apart(&mut MvccMap::new(rt.alloc())) == Ok(true));
     Ok(())
 }

@@ -1,0 +1,16 @@
+use Rattle.std.proofs.Common.{rules, sym, subst, List}
+use Rattle.std.proofs.lemmas.Fn.{filter_same}
+use Rattle.mvcc_keys.specs.Times.{Time, time_lt}
+use Rattle.range_tombstones.specs.Dates.{Ascends}
+use Rattle.range_tombstones.proofs.Lists.{ascends-filter}
+use Rattle.range_tombstones.proofs.dates.Dates.keep_after.Goals as goal
+
+pub invariant_of-self : goal.invariant_of-self
+invariant_of-self c =
+    let e = filter_same _ (λ (d : Time). time_lt c.args.g d) _ (λ x b f' k. search rules) _ _ c.retain.ensures.filtered in
+    subst (λ (ds : List Time). Ascends time_lt ds) (sym e) (ascends-filter time_lt (λ d. time_lt c.args.g d) c.self.inside.list.items c.self.invariant)
+
+pub returns : goal.returns
+returns c =
+    let e = filter_same _ (λ (d : Time). time_lt c.args.g d) _ (λ x b f' k. search rules) _ _ c.retain.ensures.filtered in
+    rw (← c.self.view_is) e

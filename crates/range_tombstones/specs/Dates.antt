@@ -1,0 +1,42 @@
+-- Dates in ascending order.
+use Rattle.std.specs.Prelude.{◌≡◌, Bool, true, false, ◌&&◌, ◌||◌, ◌==◌, cond, List, [], ◌∷◌, ◌++◌, Option, Some, None, filter}
+use Rattle.std.specs.List.{AllByRecursion}
+use Rattle.mvcc_keys.specs.Times.{Time, time_lt, time_le}
+
+-- each comes before all after it
+abbrev pub Ascends : {X : Type 0} → (X → X → Bool) → List X → Type 0
+Ascends lt [] = Unit {0}
+Ascends lt (x ∷ xs) = AllByRecursion (λ y. lt x y ≡ true) xs × Ascends lt xs
+
+abbrev pub same_time : Time → Time → Bool
+same_time s t = s.wall == t.wall && s.logical == t.logical
+
+-- a date is in the list
+abbrev pub has_date : Time → List Time → Bool
+has_date t [] = false
+has_date t (d ∷ ds) = same_time t d || has_date t ds
+
+-- a date after the earlier ones and before the later ones
+unfoldable pub with_date : Time → List Time → List Time
+with_date t ds = filter (λ d. time_lt d t) ds ++ t ∷ filter (λ d. time_lt t d) ds
+
+-- all dates but one
+abbrev pub without_date : Time → List Time → List Time
+without_date t ds = filter (λ d. cond (same_time d t) false true) ds
+
+abbrev pub last_after : {X : Type 0} → X → List X → X
+last_after x [] = x
+last_after x (y ∷ ys) = last_after y ys
+
+abbrev pub last_of : {X : Type 0} → List X → Option X
+last_of [] = None
+last_of (x ∷ xs) = Some (last_after x xs)
+
+-- the last date up to t
+unfoldable pub last_upto : Time → List Time → Option Time
+last_upto t ds = last_of (filter (λ d. time_le d t) ds)
+
+-- dates put among others
+abbrev pub with_dates : List Time → List Time → List Time
+with_dates found [] = found
+with_dates found (d ∷ ds) = with_dates (with_date d found) ds
