@@ -100,10 +100,10 @@ kind-format = byte-format (λ k. is_upright k ≡ true) kind_at kind_code kind-c
 
 -- ---- columns
 
-abbrev IsId : ℕ → Type 0
+abbrev pub IsId : ℕ → Type 0
 IsId n = IsWord n × (is_id n ≡ true)
 
-abbrev IsName : List ℕ → Type 0
+abbrev pub IsName : List ℕ → Type 0
 IsName n = (length n < 2 ^ 64) × (is_name n ≡ true)
 
 -- a column as it is read after others
@@ -116,14 +116,14 @@ column-format before = made-format (IsNextColumn before) column_of (λ (c : Colu
     (then-format (such-format (λ id. nat_lt (last_key column_id before) id) id-format) (λ id. then-format (such-format (λ name. not (has_column name before)) name-format) (λ name. kind-format)))
     (λ c h. (h, refl)) (λ p h. (h, refl))
 
-name-short : (n : List ℕ) → is_name n ≡ true → IsName n
+pub name-short : (n : List ℕ) → is_name n ≡ true → IsName n
 unfolding is_name
 name-short n h = let short = (both_true (nat_le (length n) 32) (is_name_text n) h).0 in (grind (arith, nat_tests), h)
 
-id-is : (n : ℕ) → is_id n ≡ true → IsId n
+pub id-is : (n : ℕ) → is_id n ≡ true → IsId n
 id-is n h = let fits : n < 2 ^ 32 = grind (arith, nat_tests) in (omega arith, h)
 
-id-of : (n : ℕ) → n < 2 ^ 32 → IsId n
+pub id-of : (n : ℕ) → n < 2 ^ 32 → IsId n
 id-of n h = (omega arith, grind (arith, nat_tests))
 
 flip-name : (x y : Column) → bytes_eq y.name x.name ≡ same_name x y

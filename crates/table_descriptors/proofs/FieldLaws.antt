@@ -48,7 +48,7 @@ then-format {X} {Y} {P} {Q} {code} {codes} {first} {next} f g = record {
       ((front.0, back.0), front.1 ∙ (ap (λ t. code p.0 ++ t) back.1 ∙ sym (append_assoc (code p.0) (codes p.0 p.1) r)));
 }
 
-made_of-ok : {X Y : Type 0} (make : X → Y) (o : Result (X × List ℕ) ℕ) (y : Y) (r : List ℕ) → made_of make o ≡ Ok (y, r) → (x : X) × (o ≡ Ok (x, r)) × (make x ≡ y)
+pub made_of-ok : {X Y : Type 0} (make : X → Y) (o : Result (X × List ℕ) ℕ) (y : Y) (r : List ℕ) → made_of make o ≡ Ok (y, r) → (x : X) × (o ≡ Ok (x, r)) × (make x ≡ y)
 made_of-ok {X} make (Ok p) y r e =
     let parts = ok_parts (make p.0, p.1) (y, r) e in
     (p.0, ap (λ (u : List ℕ). let w : Result (X × List ℕ) ℕ = Ok (p.0, u) in w) parts.1, parts.0)

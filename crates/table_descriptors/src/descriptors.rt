@@ -3,7 +3,7 @@ ghost use Rattle.std.specs.Prelude.{◌≡◌, ◌+◌, ◌<◌, ◌≤◌, true
 ghost use Rattle.std.specs.List.{list_all};
 ghost use Rattle.mvcc_keys.specs.Times.{IsTime};
 ghost use Rattle.table_descriptors.specs.Names.{is_name};
-ghost use Rattle.table_descriptors.specs.Descriptors.{IsProperSchema, upright, numbered, place_of, id_of, key_ids, down_ids, new_schema, bad_schema, FaultOf, turned, has_id, kind_of, key_kind, key_kinds};
+ghost use Rattle.table_descriptors.specs.Descriptors.{upright, numbered, place_of, id_of, key_ids, down_ids, new_schema, bad_schema, FaultOf, turned, has_id, kind_of, key_kind, key_kinds, IsProperSchema};
 
 use crate::columns::{Column, State};
 use crate::faults::SchemaFault;
@@ -202,6 +202,13 @@ impl Descriptor {
         Ok(first_descriptor(alloc, id, database, name, columns, key, references, at)?)
     }
 
+    /// A fact for whoever holds a descriptor: it is a proper one.
+    pub fn proper(&self)
+        ensures { IsProperSchema self.now }
+    {
+        let _id = self.id;
+    }
+
     pub fn id(&self) -> u32
         ensures { result ≡ self.now.id }
     {
@@ -232,10 +239,8 @@ impl Descriptor {
         self.state
     }
 
-    /// The columns by id. The clause says beside it what every descriptor is.
     pub fn columns(&self) -> &[Column]
-        ensures columns { result.now ≡ self.now.columns }
-        ensures proper { IsProperSchema self.now }
+        ensures { result.now ≡ self.now.columns }
     {
         self.columns.as_slice()
     }

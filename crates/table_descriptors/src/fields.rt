@@ -1,6 +1,6 @@
 //! Fields of files. A reader answers a value and what follows it, or how many bytes are left where
 //! the first item begins that doesn't read.
-ghost use Rattle.std.specs.Prelude.{◌≡◌, ◌++◌, Some, length, take, OnOk, OnErr};
+ghost use Rattle.std.specs.Prelude.{◌≡◌, ◌++◌, length, take, OnOk, OnErr};
 ghost use Rattle.key_encoding.specs.Spelling.{uvarint};
 ghost use Rattle.row_codec.specs.RowValues.{sized};
 ghost use Rattle.table_descriptors.specs.Fields.{Reads, read_number, read_id, read_count, read_exactly, read_sized, read_name, read_time, read_byte, flag_of};
@@ -123,16 +123,6 @@ pub fn take_time(b: &[u8]) -> Result<(Hlc, &[u8]), FieldFault>
 {
     match mvcc_keys::take_time(b) {
         Some((t, rest)) => Ok((t, rest)),
-        None => Err(broken(b)),
-    }
-}
-
-/// A byte, and what follows it.
-pub fn take_byte(b: &[u8]) -> Result<(u8, &[u8]), FieldFault>
-    ensures { Reads (λ p. (p.0, p.1.now)) result (read_byte (λ x. Some x) b.now) }
-{
-    match b.split_first() {
-        Some((first, rest)) => Ok((*first, rest)),
         None => Err(broken(b)),
     }
 }

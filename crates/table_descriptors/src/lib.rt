@@ -21,8 +21,8 @@ pub use descriptor_files::{
 pub use descriptors::Descriptor;
 pub use faults::SchemaFault;
 pub use fields::{
-    FieldFault, broken, put_number, put_sized, take_byte, take_count, take_exactly, take_flag,
-    take_id, take_name, take_number, take_sized, take_time,
+    FieldFault, broken, put_number, put_sized, take_count, take_exactly, take_flag, take_id,
+    take_name, take_number, take_sized, take_time,
 };
 pub use key_names::KeyNames;
 pub use names::Name;
