@@ -1,0 +1,2 @@
+pub mod RowTables
+pub mod Checks
