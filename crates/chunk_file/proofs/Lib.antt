@@ -1,3 +1,4 @@
 pub mod EntryLaws
 pub mod ChunkLaws
 pub mod HeldLaws
+pub mod EntryOrder

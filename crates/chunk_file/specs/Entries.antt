@@ -1,5 +1,6 @@
 -- Entries of chunks: what they are, how they are spelled and read, and their order.
-use Rattle.std.specs.Prelude.{ℕ, zero, suc, ◌<◌, ◌^◌, Bool, true, false, ◌&&◌, ◌||◌, nat_eq, Option, Some, None, List, [], ◌∷◌, ◌++◌, length, if◌then◌else◌}
+use Rattle.std.specs.Prelude.{◌≡◌, ℕ, zero, suc, ◌<◌, ◌^◌, Bool, true, false, ◌&&◌, ◌||◌, nat_eq, Option, Some, None, List, [], ◌∷◌, ◌++◌, length, if◌then◌else◌}
+use Rattle.std.specs.List.{AllByRecursion}
 use Rattle.std.specs.Option.{option_map}
 use Rattle.std.specs.Ordering.{nat_cmp, is_lt}
 use Rattle.std.specs.Cmp.Lexicographic.{slice_cmp}
@@ -50,6 +51,12 @@ may_follow (Some d) e = comes_before d e
 abbrev pub are_ordered : Option Entry → List Entry → Bool
 are_ordered last [] = true
 are_ordered last (e ∷ es) = may_follow last e && are_ordered (Some e) es
+
+-- entries stand in a strict order, and what is ordered one by one is ordered throughout
+pub record EntriesAreOrdered : Type 0 where
+  pub chains : (a b c : Entry) → comes_before a b ≡ true → comes_before b c ≡ true → comes_before a c ≡ true
+  pub one_way : (a b : Entry) → comes_before a b ≡ true → comes_before b a ≡ false
+  pub throughout : (a : Entry) (es : List Entry) → are_ordered (Some a) es ≡ true → AllByRecursion (λ e. comes_before a e ≡ true) es
 
 -- ---- entries of a table
 
