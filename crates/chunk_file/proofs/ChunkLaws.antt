@@ -24,7 +24,7 @@ use Rattle.chunk_file.proofs.EntryLaws.{entry-found, entry-only, listed-found}
 
 -- ---- one entry of a list
 
-next-found : (table : ℕ) (kinds : List Kind) (last : Option Entry) (e : Entry) (r : List ℕ) → is_entry table kinds e ≡ true → may_follow last e ≡ true → IsStored e → read_next table kinds last (entry_code e ++ r) ≡ Some (e, r)
+pub next-found : (table : ℕ) (kinds : List Kind) (last : Option Entry) (e : Entry) (r : List ℕ) → is_entry table kinds e ≡ true → may_follow last e ≡ true → IsStored e → read_next table kinds last (entry_code e ++ r) ≡ Some (e, r)
 unfolding read_next
 next-found table kinds last e r is follows h = rw (entry-found e r h, is, follows) refl
 
@@ -38,7 +38,7 @@ if_met-some test (Some p) e r h =
     ]
 if_met-some test None e r h = absurd (cc)
 
-next-some : (table : ℕ) (kinds : List Kind) (last : Option Entry) (b : List ℕ) (e : Entry) (r : List ℕ) → read_next table kinds last b ≡ Some (e, r) → (is_entry table kinds e ≡ true) × (may_follow last e ≡ true) × (read_entry b ≡ Some (e, r))
+pub next-some : (table : ℕ) (kinds : List Kind) (last : Option Entry) (b : List ℕ) (e : Entry) (r : List ℕ) → read_next table kinds last b ≡ Some (e, r) → (is_entry table kinds e ≡ true) × (may_follow last e ≡ true) × (read_entry b ≡ Some (e, r))
 unfolding read_next
 next-some table kinds last b e r h =
     let met = if_met-some (λ x. is_entry table kinds x && may_follow last x) (read_entry b) e r h in
@@ -123,7 +123,7 @@ no-fault (Err k) h = absurd (cc)
 
 -- ---- the head
 
-mark-only : (b r : List ℕ) → read_mark b ≡ Some r → b ≡ chunk_mark ++ r
+pub mark-only : (b r : List ℕ) → read_mark b ≡ Some r → b ≡ chunk_mark ++ r
 mark-only b r h =
     elim (cases_Bool (bytes_eq (take 4 b) chunk_mark)) [
       | inl y ↦
@@ -145,14 +145,14 @@ count-is n m h =
       | inr f ↦ let e' = rw f at h in absurd (cc)
     ]
 
-count-only : (b : List ℕ) (n : ℕ) (r : List ℕ) → AreBytes b → read_count b ≡ Some (n, r) → (1 ≤ n) × (n ≤ 256) × (b ≡ uvarint n ++ r)
+pub count-only : (b : List ℕ) (n : ℕ) (r : List ℕ) → AreBytes b → read_count b ≡ Some (n, r) → (1 ≤ n) × (n ≤ 256) × (b ≡ uvarint n ++ r)
 unfolding read_count
 count-only b n r h e =
     let read = valued-some a_count (read_uvarint b) n r e in
     let is = count-is read.0 n read.2 in
     (is.0, is.1, rw is.2 at (uvarint-only b read.0 r h read.1).1)
 
-count-found : (n : ℕ) (r : List ℕ) → 1 ≤ n → n ≤ 256 → read_count (uvarint n ++ r) ≡ Some (n, r)
+pub count-found : (n : ℕ) (r : List ℕ) → 1 ≤ n → n ≤ 256 → read_count (uvarint n ++ r) ≡ Some (n, r)
 unfolding read_count
 count-found n r low high =
     let a : nat_le 1 n ≡ true = grind (arith, nat_tests) in

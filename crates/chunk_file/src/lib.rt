@@ -10,7 +10,7 @@ mod view;
 mod writing;
 
 pub use held::HeldChunk;
-pub use laws::{chunks_are_exact, entries_are_ordered};
+pub use laws::{chunks_are_exact, entries_are_ordered, faults_are_first};
 pub use malformed::Malformed;
 pub use mvcc_keys::{Entry, EntryView, Memory};
 pub use reading::comes_before;
