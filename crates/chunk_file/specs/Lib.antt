@@ -1,0 +1,4 @@
+pub mod Entries
+pub mod Chunks
+pub mod Held
+pub mod Faults
