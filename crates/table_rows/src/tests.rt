@@ -1,7 +1,7 @@
 //! Rows of a table over a plain list of facts, with answers worked out by hand.
 use crate::*;
 use mvcc_keys::{Hlc, Memory, Text};
-use row_codec::{Datum, Kind, Row, row_key};
+use row_codec::{Datum, Kind, Row, are_of_kinds, row_key};
 use std::alloc::Global;
 use std::test::Fail;
 use table_descriptors::{Descriptor, Name};
@@ -43,17 +43,29 @@ fn two(alloc: Global, x: Datum, y: Datum) -> Result<Row, Memory> {
     Ok(Row::from_vec(values))
 }
 
-/// A row of a key and a text of so many bytes.
-fn row(alloc: Global, k: i64, len: usize) -> Result<Row, Memory> {
+/// A row of a key, NULL for -1, and a text of so many bytes; a number in its place for 70,000, and
+/// nothing for 80,000.
+fn row(alloc: Global, k: i64, len: u32) -> Result<Row, Memory> {
+    let key = if k == -1 {
+        Datum::Null
+    } else {
+        Datum::Int(k)
+    };
+    if len == 80_000 {
+        return one(alloc, key);
+    }
+    if len == 70_000 {
+        return two(alloc, key, Datum::Int(1));
+    }
     let mut text = String::new(alloc);
     for _ in 0..len {
         text.push('v')?;
     }
-    two(alloc, Datum::Int(k), Datum::Text(Text::from_string(text)))
+    two(alloc, key, Datum::Text(Text::from_string(text)))
 }
 
 fn key(alloc: Global, k: i64) -> Result<Row, Memory> {
-    one(alloc, Datum::Int(k))
+    row(alloc, k, 80_000)
 }
 
 fn fault_of(checked: Result<(), RowsFault>) -> (usize, usize) {
@@ -67,35 +79,55 @@ fn fault_of(checked: Result<(), RowsFault>) -> (usize, usize) {
     }
 }
 
-/// The faults of lists of two rows, of keys, and of ranges.
-fn are_faults(alloc: Global) -> Result<bool, Memory> {
-    let rows = TableRows::new(alloc, FactList::new(alloc));
-    let d = table(alloc, false)?;
-    let cases: [([Row; 2], (usize, usize)); 7] = [
-        ([row(alloc, 1, 1)?, row(alloc, 2, 1)?], (0, 0)),
-        ([row(alloc, 1, 1)?, row(alloc, 1, 2)?], (15, 2)),
-        ([row(alloc, 1, 1)?, key(alloc, 2)?], (2, 0)),
-        ([two(alloc, Datum::Null, Datum::Null)?, row(alloc, 2, 1)?], (1, 1)),
-        ([row(alloc, 1, 1)?, two(alloc, Datum::Int(1), Datum::Int(1))?], (2, 2)),
-        ([row(alloc, 1, 32_763)?, row(alloc, 1, 32_764)?], (10, 2)),
-        ([row(alloc, 1, 32_764)?, row(alloc, 2, 32_763)?], (10, 1)),
-    ];
-    let mut right = true;
-    for (given, wanted) in cases.iter() {
-        right = right && fault_of(rows.check_rows(&d, given.as_slice())) == *wanted;
-    }
-    let keys = [key(alloc, 3)?, key(alloc, 4)?, key(alloc, 3)?];
-    right = right && fault_of(rows.check_keys(&d, &keys)) == (15, 3);
-    right = right && fault_of(rows.check_keys(&d, &[two(alloc, Datum::Null, Datum::Null)?])) == (1, 0);
-    right = right && fault_of(rows.check_keys(&d, &[one(alloc, Datum::Null)?])) == (1, 1);
-    right = right && fault_of(rows.check_range(&d, &keys[0], &keys[2])) == (38, 0);
-    right = right && fault_of(rows.check_range(&d, &keys[0], &row(alloc, 4, 1)?)) == (2, 0);
-    Ok(right && fault_of(rows.check_range(&d, &keys[0], &keys[1])) == (0, 0))
+/// What is wrong with two rows.
+fn of_rows(alloc: Global, rows: &TableRows<FactList>, d: &Descriptor, a: (i64, u32), b: (i64, u32)) -> Result<(usize, usize), Memory> {
+    let given = [row(alloc, a.0, a.1)?, row(alloc, b.0, b.1)?];
+    Ok(fault_of(rows.check_rows(d, &given)))
+}
+
+/// What is wrong with two keys, and with the range between them.
+fn of_keys(alloc: Global, rows: &TableRows<FactList>, d: &Descriptor, a: i64, b: i64) -> Result<((usize, usize), (usize, usize)), Memory> {
+    let given = [key(alloc, a)?, key(alloc, b)?];
+    let range = rows.check_range(d, &given[0], &given[1]);
+    Ok((fault_of(rows.check_keys(d, &given)), fault_of(range)))
 }
 
 #[test]
-fn faults(rt: HostRuntime) -> Result<(), Fail> {
-    assert!(rt; are_faults(rt.alloc()) == Ok(true));
+fn faults_of_rows(rt: HostRuntime) -> Result<(), Fail> {
+    let cases: [((i64, u32), (i64, u32), (usize, usize)); 7] = [
+        ((1, 1), (2, 1), (0, 0)),
+        ((1, 1), (1, 2), (15, 2)),
+        ((1, 1), (2, 80_000), (2, 0)),
+        ((-1, 1), (2, 1), (1, 1)),
+        ((1, 1), (1, 70_000), (2, 2)),
+        ((1, 32_763), (1, 32_764), (10, 2)),
+        ((1, 32_764), (2, 32_763), (10, 1)),
+    ];
+    let rows = TableRows::new(rt.alloc(), FactList::new(rt.alloc()));
+    let Ok(d) = table(rt.alloc(), false) else {
+        panic!(rt; "no memory")
+    };
+    for (a, b, wanted) in cases.iter() {
+        assert!(rt; of_rows(rt.alloc(), &rows, &d, *a, *b) == Ok(*wanted));
+    }
+    Ok(())
+}
+
+#[test]
+fn faults_of_keys(rt: HostRuntime) -> Result<(), Fail> {
+    let cases: [(i64, i64, (usize, usize), (usize, usize)); 4] = [
+        (3, 4, (0, 0), (0, 0)),
+        (3, 3, (15, 2), (38, 0)),
+        (4, 3, (0, 0), (38, 0)),
+        (4, -1, (2, 1), (2, 1)),
+    ];
+    let rows = TableRows::new(rt.alloc(), FactList::new(rt.alloc()));
+    let Ok(d) = table(rt.alloc(), false) else {
+        panic!(rt; "no memory")
+    };
+    for (a, b, keys, range) in cases.iter() {
+        assert!(rt; of_keys(rt.alloc(), &rows, &d, *a, *b) == Ok((*keys, *range)));
+    }
     Ok(())
 }
 
@@ -113,46 +145,63 @@ fn shown(rows: &TableRows<FactList>, d: &Descriptor, t: u32) -> i64 {
     digits
 }
 
-/// Rows 2 to 8, the range from `lo` up to `hi` deleted, row 5 again, key 7 deleted: what is shown
-/// as of each time, and after a collection.
-fn are_shown(alloc: Global, down: bool, lo: i64, hi: i64, wanted: [i64; 6]) -> Result<bool, Memory> {
-    let mut rows = TableRows::new(alloc, FactList::new(alloc));
-    let d = table(alloc, down)?;
+/// Rows 2 to 8 at 2, and a range of keys deleted at 3.
+fn put_and_delete(alloc: Global, rows: &mut TableRows<FactList>, d: &Descriptor, lo: i64, hi: i64) -> Result<bool, Memory> {
     let mut given = Vec::new(alloc);
     for k in 2..9 {
         given.push(row(alloc, k, 1)?)?;
     }
-    if rows.check_rows(&d, &given).is_err() {
+    if rows.check_rows(d, &given).is_err() {
         return Ok(false);
     }
-    rows.upsert(&d, &given, at(2))?;
+    rows.upsert(d, &given, at(2))?;
     let (lo, hi) = (key(alloc, lo)?, key(alloc, hi)?);
-    if rows.check_range(&d, &lo, &hi).is_err() {
+    if rows.check_range(d, &lo, &hi).is_err() {
         return Ok(false);
     }
-    rows.delete_range(&d, &lo, &hi, at(3))?;
-    let mut five = Vec::new(alloc);
-    row_key(100, &d.key_kinds(alloc)?, &key(alloc, 5)?, &mut five)?;
-    rows.put_stored(&five, at(4), &[])?;
+    rows.delete_range(d, &lo, &hi, at(3))?;
+    Ok(true)
+}
+
+/// Row 5 as it is stored at 4, and key 7 deleted at 5.
+fn put_five(alloc: Global, rows: &mut TableRows<FactList>, d: &Descriptor) -> Result<bool, Memory> {
+    let kinds = d.key_kinds(alloc)?;
+    let five = key(alloc, 5)?;
     let keys = [key(alloc, 7)?];
-    if rows.check_keys(&d, &keys).is_err() {
+    if !are_of_kinds(&kinds, five.as_slice()) || rows.check_keys(d, &keys).is_err() {
         return Ok(false);
     }
-    rows.delete(&d, &keys, at(5))?;
-    let mut right = rows.store().threshold(100) == Hlc::zero();
+    let mut bytes = Vec::new(alloc);
+    row_key(100, &kinds, &five, &mut bytes)?;
+    rows.put_stored(&bytes, at(4), &[])?;
+    rows.delete(d, &keys, at(5))?;
+    Ok(true)
+}
+
+/// What is shown as of 1 to 5, and at 3, 4 and 9 after a collection at 4.
+fn are_shown(alloc: Global, down: bool, lo: i64, hi: i64, wanted: &[i64]) -> Result<bool, Memory> {
+    let mut rows = TableRows::new(alloc, FactList::new(alloc));
+    let d = table(alloc, down)?;
+    if !put_and_delete(alloc, &mut rows, &d, lo, hi)? || !put_five(alloc, &mut rows, &d)? {
+        return Ok(false);
+    }
+    let mut seen = Vec::new(alloc);
     for t in 1..6 {
-        right = right && shown(&rows, &d, t) == wanted[t as usize - 1];
+        seen.push(shown(&rows, &d, t))?;
     }
     rows.collect(100, at(4))?;
-    Ok(right && shown(&rows, &d, 3) == -1 && rows.store().threshold(100) == at(4) && shown(&rows, &d, 4) == wanted[3] && shown(&rows, &d, 9) == wanted[5])
+    for t in [3, 4, 9].iter() {
+        seen.push(shown(&rows, &d, *t))?;
+    }
+    Ok(rows.store().threshold(100) == at(4) && seen.as_slice() == wanted)
 }
 
 #[test]
 fn times(rt: HostRuntime) -> Result<(), Fail> {
-    let up = [0, 2_345_678, 278, 2_578, 258, 258];
-    assert!(rt; are_shown(rt.alloc(), false, 3, 7, up) == Ok(true));
-    let down = [0, 8_765_432, 832, 8_532, 8_532, 8_532];
-    assert!(rt; are_shown(rt.alloc(), true, 7, 3, down) == Ok(true));
-    assert!(rt; are_shown(rt.alloc(), true, 3, 7, down) == Ok(false));
+    let up = [0, 2_345_678, 278, 2_578, 258, -1, 2_578, 258];
+    assert!(rt; are_shown(rt.alloc(), false, 3, 7, &up) == Ok(true));
+    let down = [0, 8_765_432, 832, 8_532, 8_532, -1, 8_532, 8_532];
+    assert!(rt; are_shown(rt.alloc(), true, 7, 3, &down) == Ok(true));
+    assert!(rt; are_shown(rt.alloc(), true, 3, 7, &down) == Ok(false));
     Ok(())
 }
