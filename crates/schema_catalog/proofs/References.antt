@@ -38,8 +38,8 @@ same-name tables t m n i p q =
     let b = named-by n (in_force (get_or tables i []) t) (position-Some (is_named n t) tables i [] q).1 in
     let d : a.0 ≡ b.0 = some_is a.0 b.0 (sym a.1 ∙ b.1) in
     ap₂ (λ (x y : Bool). x && y)
-      (same-text b.0.database m.0 n.0 (ap (λ (s : Schema). bytes_eq s.database m.0) (sym d) ∙ a.2) b.2)
-      (same-text b.0.name m.1 n.1 (ap (λ (s : Schema). bytes_eq s.name m.1) (sym d) ∙ a.3) b.3)
+    (same-text b.0.database m.0 n.0 (ap (λ (s : Schema). bytes_eq s.database m.0) (sym d) ∙ a.2) b.2)
+    (same-text b.0.name m.1 n.1 (ap (λ (s : Schema). bytes_eq s.name m.1) (sym d) ∙ a.3) b.3)
 
 pub or-false : (a b : Bool) → (a || b) ≡ false → (a ≡ false) × (b ≡ false)
 or-false false b e = (refl, e)
@@ -54,10 +54,10 @@ module _ (s : Schemas) (t : Time) where
       apart : (j : ℕ) → place_named s.tables m t ≡ Some j → (b : Bool) → id_at j == id_at i ≡ b → b ≡ false
       apart j e false q = refl
       apart j e true q =
-        let ids : id_at j ≡ id_at i = eqb-true (id_at j) (id_at i) q in
-        let same : j ≡ i = omega (arith, ids) in
-        let no : true ≡ false = sym (same-name s.tables t m n i (e ∙ ap (λ (k : ℕ). Some k) same) p) ∙ (or-false (is_same_name m n) (list_any (λ m. is_same_name m n) ms) none).0 in
-        cc no
+          let ids : id_at j ≡ id_at i = eqb-true (id_at j) (id_at i) q in
+          let same : j ≡ i = omega (arith, ids) in
+          let no : true ≡ false = sym (same-name s.tables t m n i (e ∙ ap (λ (k : ℕ). Some k) same) p) ∙ (or-false (is_same_name m n) (list_any (λ m. is_same_name m n) ms) none).0 in
+          cc no
 
       by : (r : Option ℕ) → place_named s.tables m t ≡ r → list_any (λ y. y == id_at i) (reference_ids s t ms) ≡ false → list_any (λ y. y == id_at i) (reference_ids s t (m ∷ ms)) ≡ false
       by None e rest = rw (e) rest
@@ -114,7 +114,7 @@ pub table_fits : (s : Schemas) (t : Time) (name : Name) (columns : List (List �
 unfolding table_fault
 table_fits s t name columns key references none =
     let n = none-of (fault_if (not (has_database s name.0)) (NoSuchDatabase name.0)) (fault_if (is_some (place_named s.tables name t)) (NameTaken name))
-        (schema_fault (broken_rule columns key (repeats is_same_name references))) (missing_fault s t references) (offline_fault s t references) (fault_if (nat_le s.limit (length s.tables)) TooManyTables) none in
+    (schema_fault (broken_rule columns key (repeats is_same_name references))) (missing_fault s t references) (offline_fault s t references) (fault_if (nat_le s.limit (length s.tables)) TooManyTables) none in
     let rule : broken_rule columns key (repeats is_same_name references) ≡ None = no-rule (broken_rule columns key (repeats is_same_name references)) n.0 in
     let room : nat_le s.limit (length s.tables) ≡ false = unless-limit (nat_le s.limit (length s.tables)) n.1 in
     let once : repeats is_same_name references ≡ false = rule-once columns key (repeats is_same_name references) rule in

@@ -175,7 +175,9 @@ impl Catalog {
         ensures place { result ≡ place_named self.now.tables (database.now, name.now) t }
         ensures within { IfSome result (λ i. 100 + i < 2 ^ 32) }
     {
-        self.tables.iter().position(|table| table.is_named(database, name, t))
+        self.tables
+            .iter()
+            .position(|table| table.is_named(database, name, t))
     }
 
     /// The descriptor in force at t of the table to which a name belongs at t.
@@ -351,7 +353,12 @@ impl Catalog {
 
     /// The first test that refuses a change, by the names as of t.
     #[tactic(auto, unfolding(crate::specs::Catalogs::change_fault))]
-    fn name_fault(&self, d: &Descriptor, change: &Change, t: Hlc) -> Result<Option<CatalogFault>, Memory>
+    fn name_fault(
+        &self,
+        d: &Descriptor,
+        change: &Change,
+        t: Hlc,
+    ) -> Result<Option<CatalogFault>, Memory>
         ensures { IfOk result (λ r. r ≡ taken_name self.now t d.now change.now) }
     {
         let Change::Rename { to } = change else {

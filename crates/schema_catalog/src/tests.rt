@@ -41,7 +41,14 @@ fn answer_of(done: Result<u32, CatalogFault>) -> (u32, u32) {
 }
 
 /// Creates a table with one INT column `k`, which references another of the database `d`.
-fn create(catalog: &mut Catalog, alloc: Global, database: &str, table: &str, references: &[&str], t: u32) -> Result<(u32, u32), Memory> {
+fn create(
+    catalog: &mut Catalog,
+    alloc: Global,
+    database: &str,
+    table: &str,
+    references: &[&str],
+    t: u32,
+) -> Result<(u32, u32), Memory> {
     let columns = [(name(alloc, "k")?, Kind::Int)];
     let key = [(name(alloc, "k")?, false)];
     let mut named = Vec::new(alloc);
@@ -59,12 +66,16 @@ fn are_created(alloc: Global, catalog: &mut Catalog) -> Result<bool, Memory> {
     right = right && !catalog.has_database(&d) && catalog.create_database(&d).is_ok();
     right = right && catalog.has_database(&d);
     right = right && answer_of(catalog.create_database(&d).map(|_| 1)) == (4, 0);
-    right = right && catalog.next_id() == 100 && create(catalog, alloc, "d", "t", &[], 2)? == (0, 100);
+    right = right
+        && catalog.next_id() == 100
+        && create(catalog, alloc, "d", "t", &[], 2)? == (0, 100);
     right = right && create(catalog, alloc, "d", "t", &[], 3)? == (6, 0);
     right = right && create(catalog, alloc, "d", "u", &["t", "t"], 3)? == (8, 8);
     right = right && create(catalog, alloc, "d", "u", &["u"], 3)? == (5, 0);
     right = right && create(catalog, alloc, "d", "u", &["t"], 3)? == (0, 101);
-    right = right && catalog.table_limit() == 3 && create(catalog, alloc, "d", "w", &[], 4)? == (0, 102);
+    right = right
+        && catalog.table_limit() == 3
+        && create(catalog, alloc, "d", "w", &[], 4)? == (0, 102);
     Ok(right && create(catalog, alloc, "d", "x", &[], 5)? == (35, 0) && catalog.next_id() == 103)
 }
 
@@ -78,19 +89,35 @@ fn change(catalog: &mut Catalog, id: u32, change: &Change, t: u32) -> (u32, u32)
 
 /// Changes of the table 100, and what is in force at each time.
 fn are_changed(alloc: Global, catalog: &mut Catalog) -> Result<bool, Memory> {
-    let add = Change::Add { name: name(alloc, "v")?, kind: Kind::Text };
-    let taken = Change::Rename { to: name(alloc, "u")? };
-    let rename = Change::Rename { to: name(alloc, "s")? };
-    let remove = Change::Remove { name: name(alloc, "k")? };
-    let mut right = change(catalog, 100, &add, 6) == (0, 2) && change(catalog, 100, &add, 7) == (8, 6);
-    right = right && change(catalog, 100, &taken, 7) == (6, 0) && change(catalog, 100, &remove, 7) == (8, 5);
+    let add = Change::Add {
+        name: name(alloc, "v")?,
+        kind: Kind::Text,
+    };
+    let taken = Change::Rename {
+        to: name(alloc, "u")?,
+    };
+    let rename = Change::Rename {
+        to: name(alloc, "s")?,
+    };
+    let remove = Change::Remove {
+        name: name(alloc, "k")?,
+    };
+    let mut right = change(catalog, 100, &add, 6) == (0, 2)
+        && change(catalog, 100, &add, 7) == (8, 6);
+    right = right
+        && change(catalog, 100, &taken, 7) == (6, 0)
+        && change(catalog, 100, &remove, 7) == (8, 5);
     right = right && change(catalog, 100, &rename, 7) == (0, 3);
     right = right && change(catalog, 102, &Change::Become(State::Offline), 8) == (0, 2);
     right = right && create(catalog, alloc, "d", "x", &["w", "t"], 8)? == (5, 0);
     right = right && create(catalog, alloc, "d", "x", &["u", "w"], 8)? == (7, 0);
     let (d, t, s) = (name(alloc, "d")?, name(alloc, "t")?, name(alloc, "s")?);
-    right = right && catalog.named(&d, &t, at(6)) == Some(100) && catalog.named(&d, &t, at(7)).is_none();
-    right = right && catalog.named(&d, &s, at(7)) == Some(100) && catalog.named(&d, &t, at(1)).is_none();
+    right = right
+        && catalog.named(&d, &t, at(6)) == Some(100)
+        && catalog.named(&d, &t, at(7)).is_none();
+    right = right
+        && catalog.named(&d, &s, at(7)) == Some(100)
+        && catalog.named(&d, &t, at(1)).is_none();
     right = right && catalog.history(100).len() == 3 && catalog.history(99).is_empty();
     Ok(right && catalog.at(100, at(5)).map(|d| d.columns().len()) == Some(1))
 }

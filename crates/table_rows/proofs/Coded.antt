@@ -93,8 +93,8 @@ module _ (T : RowTables) (id : ℕ) (f : RowFact) (small : id < 2 ^ 32) (all : A
 
   at-key : (g : RowFact) (b : Bytes) (k : Key) → Has g (T.facts id) → IsKey kinds k → b ≡ row_key id kinds k → touches bytes_cmp b (coded id kinds g) ≡ true → touches bytes_cmp b (coded id kinds f) ≡ true → date g ≡ date f → ⊥
   at-key g b k has p e tg tf = may.fresh k g p has
-    (sym (touches-coded id kinds small k g p (all g has)) ∙ (ap (λ (x : Bytes). touches bytes_cmp x (coded id kinds g)) (sym e) ∙ tg))
-    (sym (touches-coded id kinds small k f p is) ∙ (ap (λ (x : Bytes). touches bytes_cmp x (coded id kinds f)) (sym e) ∙ tf))
+      (sym (touches-coded id kinds small k g p (all g has)) ∙ (ap (λ (x : Bytes). touches bytes_cmp x (coded id kinds g)) (sym e) ∙ tg))
+      (sym (touches-coded id kinds small k f p is) ∙ (ap (λ (x : Bytes). touches bytes_cmp x (coded id kinds f)) (sym e) ∙ tf))
 
   differ : (g : RowFact) (b : Bytes) → Has g (T.facts id) → (p q : Bool) → is_point f ≡ p → is_point g ≡ q → touches bytes_cmp b (coded id kinds g) ≡ true → touches bytes_cmp b (coded id kinds f) ≡ true → date g ≡ date f → ⊥
   differ g b has true q pf pg tg tf = (let k = touched-point id kinds b f is pf tf in at-key g b k.0 has k.1 k.2 tg tf)
@@ -106,11 +106,11 @@ module _ (T : RowTables) (id : ℕ) (f : RowFact) (small : id < 2 ^ 32) (all : A
     table = of-table id kinds small f is full;
     late = ap (λ (t : Time). time_lt (T.threshold id) t) (date-coded id kinds f) ∙ may.late;
     fresh = λ b g has tg tf. (let old = map-has (coded id kinds) g (T.facts id) has in
-      subst (λ (x : ByteFact). date x ≢ date (coded id kinds f)) (sym old.2)
-      (dates old.0 (differ old.0 b old.1 (is_point f) (is_point old.0) refl refl (subst (λ (x : ByteFact). touches bytes_cmp b x ≡ true) old.2 tg) tf)));
+        subst (λ (x : ByteFact). date x ≢ date (coded id kinds f)) (sym old.2)
+        (dates old.0 (differ old.0 b old.1 (is_point f) (is_point old.0) refl refl (subst (λ (x : ByteFact). touches bytes_cmp b x ≡ true) old.2 tg) tf)));
     other_range = λ g has rg rf. (let old = map-has (coded id kinds) g (T.facts id) has in
-      subst (λ (x : ByteFact). date x ≢ date (coded id kinds f)) (sym old.2)
-      (dates old.0 (may.other_range old.0 old.1 (sym (point-coded id kinds old.0) ∙ (ap is_point (sym old.2) ∙ rg)) (sym (point-coded id kinds f) ∙ rf))));
+        subst (λ (x : ByteFact). date x ≢ date (coded id kinds f)) (sym old.2)
+        (dates old.0 (may.other_range old.0 old.1 (sym (point-coded id kinds old.0) ∙ (ap is_point (sym old.2) ∙ rg)) (sym (point-coded id kinds f) ∙ rf))));
   }
 
 -- ---- the tables after a fact more

@@ -38,16 +38,16 @@ module _ {X : Type 0} (T : RowTables) (d : Schema) (fact : X → RowFact) (key :
     where
       other : (g : RowFact) → Has g (map fact (take i xs)) → (k : Key) → IsKey (T.kinds d.id) k → touches (row_cmp (T.kinds d.id)) k g ≡ true → touches (row_cmp (T.kinds d.id)) k (fact x) ≡ true → ⊥
       other g within k isk tg tf =
-        let y = map-has fact g (take i xs) within in
-        let ts : touches (row_cmp (T.kinds d.id)) k (fact y.0) ≡ true = subst (λ (f : RowFact). touches (row_cmp (T.kinds d.id)) k f ≡ true) y.2 tg in
-        let isy : IsKey (T.kinds d.id) (key y.0) = of (T.kinds d.id) y.0 (subst (λ (f : RowFact). IsRowFact (T.kinds d.id) f) y.2 (has.rows d.id g (rw (eq-eqb d.id d.id refl) (has-append_right g (T.facts d.id) (map fact (take i xs)) within)))) in
-        let same : key y.0 ≡ key x = key-same (T.kinds d.id) (key y.0) k isy isk (sym (touched (row_cmp (T.kinds d.id)) k y.0) ∙ ts) ∙ sym (key-same (T.kinds d.id) (key x) k is isk (sym (touched (row_cmp (T.kinds d.id)) k x) ∙ tf)) in
-        let tied : is_eq (row_cmp (key_kinds d) (key y.0) (key x)) ≡ true =
-            ap (λ (z : Key). is_eq (row_cmp (key_kinds d) (key y.0) z)) (sym same ∙ key-same (T.kinds d.id) (key y.0) k isy isk (sym (touched (row_cmp (T.kinds d.id)) k y.0) ∙ ts))
-            ∙ (ap (λ ks. is_eq (row_cmp ks (key y.0) k)) (sym kinds) ∙ (sym (touched (row_cmp (T.kinds d.id)) k y.0) ∙ ts)) in
-        let len : length (map key xs) ≡ length xs = length-map xs key in
-        let none = none-repeats (row_cmp (key_kinds d)) [] (map key xs) i (key x) once (omega (arith, l, len)) (ap key at ∙ sym (get_or-map key xs i x)) in
-        not-any (λ (z : Key). is_eq (row_cmp (key_kinds d) z (key x))) (take i (map key xs)) (key y.0) (subst (λ (zs : List Key). Has (key y.0) zs) (sym (take-map key i xs)) (has-map key y.0 (take i xs) y.1)) tied none
+          let y = map-has fact g (take i xs) within in
+          let ts : touches (row_cmp (T.kinds d.id)) k (fact y.0) ≡ true = subst (λ (f : RowFact). touches (row_cmp (T.kinds d.id)) k f ≡ true) y.2 tg in
+          let isy : IsKey (T.kinds d.id) (key y.0) = of (T.kinds d.id) y.0 (subst (λ (f : RowFact). IsRowFact (T.kinds d.id) f) y.2 (has.rows d.id g (rw (eq-eqb d.id d.id refl) (has-append_right g (T.facts d.id) (map fact (take i xs)) within)))) in
+          let same : key y.0 ≡ key x = key-same (T.kinds d.id) (key y.0) k isy isk (sym (touched (row_cmp (T.kinds d.id)) k y.0) ∙ ts) ∙ sym (key-same (T.kinds d.id) (key x) k is isk (sym (touched (row_cmp (T.kinds d.id)) k x) ∙ tf)) in
+          let tied : is_eq (row_cmp (key_kinds d) (key y.0) (key x)) ≡ true =
+          ap (λ (z : Key). is_eq (row_cmp (key_kinds d) (key y.0) z)) (sym same ∙ key-same (T.kinds d.id) (key y.0) k isy isk (sym (touched (row_cmp (T.kinds d.id)) k y.0) ∙ ts))
+          ∙ (ap (λ ks. is_eq (row_cmp ks (key y.0) k)) (sym kinds) ∙ (sym (touched (row_cmp (T.kinds d.id)) k y.0) ∙ ts)) in
+          let len : length (map key xs) ≡ length xs = length-map xs key in
+          let none = none-repeats (row_cmp (key_kinds d)) [] (map key xs) i (key x) once (omega (arith, l, len)) (ap key at ∙ sym (get_or-map key xs i x)) in
+          not-any (λ (z : Key). is_eq (row_cmp (key_kinds d) z (key x))) (take i (map key xs)) (key y.0) (subst (λ (zs : List Key). Has (key y.0) zs) (sym (take-map key i xs)) (has-map key y.0 (take i xs) y.1)) tied none
 
   -- facts up to the next
   pub next-has : (S : Tables → Type 0) (i : ℕ) (x : X) → i < length xs → x ≡ get_or xs i x → HasRows S (with_facts d.id (fact x ∷ []) (with_facts d.id (map fact (take i xs)) T)) → HasRows S (with_facts d.id (map fact (take (i + 1) xs)) T)

@@ -76,7 +76,7 @@ scan-shown T d t entries small kinds all e =
     let here : AreRowFacts (key_kinds d) (T.facts d.id) = subst (λ (ks : List Kind). AreRowFacts ks (T.facts d.id)) kinds all in
     let f = row_key d.id (key_kinds d) in
     let mapped : scan bytes_cmp t (map (coded d.id (key_kinds d)) (T.facts d.id)) ≡ map (map_item f row_value) (scan (row_cmp (key_kinds d)) t (T.facts d.id))
-      = scan-map (row_cmp (key_kinds d)) bytes_cmp f row_value (IsKey (key_kinds d)) (keys-ordered d.id (key_kinds d) small) t (T.facts d.id) (λ x has. meets (key_kinds d) x (here x has)) in
+    = scan-map (row_cmp (key_kinds d)) bytes_cmp f row_value (IsKey (key_kinds d)) (keys-ordered d.id (key_kinds d) small) t (T.facts d.id) (λ x has. meets (key_kinds d) x (here x has)) in
     ap (filter_map (row_in d (key_kinds d))) (e ∙ ap (λ (ks : List Kind). entries_of (map put_of (scan bytes_cmp t (map (coded d.id ks) (T.facts d.id))))) kinds
     ∙ ap (λ (is : List (Item Bytes Bytes)). entries_of (map put_of is)) mapped)
     ∙ all-shown d (key_kinds d) d.id small (scan (row_cmp (key_kinds d)) t (T.facts d.id)) (scan-good (key_kinds d) t (T.facts d.id) here)

@@ -159,7 +159,13 @@ impl<V: Versions> TableRows<V> {
     }
 
     /// Deletes a key.
-    fn delete_key(&mut self, d: &Descriptor, kinds: &[Kind], key: &Row, at: Hlc) -> Result<(), Memory>
+    fn delete_key(
+        &mut self,
+        d: &Descriptor,
+        kinds: &[Kind],
+        key: &Row,
+        at: Hlc,
+    ) -> Result<(), Memory>
         requires kinds { kinds.now ≡ key_kinds d.now }
         requires fits { are_of_kinds (key_kinds d.now) key.now ≡ true }
         ensures added { OnOk result ((T : RowTables) → HasRows (V.stands self.old) T → IsTableOf T d.now →
@@ -187,7 +193,13 @@ impl<V: Versions> TableRows<V> {
     }
 
     /// Deletes the keys from `lo` up to, not including, `hi`, which passed `check_range`.
-    pub fn delete_range(&mut self, d: &Descriptor, lo: &Row, hi: &Row, at: Hlc) -> Result<(), Memory>
+    pub fn delete_range(
+        &mut self,
+        d: &Descriptor,
+        lo: &Row,
+        hi: &Row,
+        at: Hlc,
+    ) -> Result<(), Memory>
         requires { range_fault d.now lo.now hi.now ≡ None }
         ensures added { OnOk result ((T : RowTables) → HasRows (V.stands self.old) T → IsTableOf T d.now → MayAdd T d.now.id (Fact.DelRange lo.now hi.now at) →
             HasRows (V.stands self.new) (with_facts d.now.id (Fact.DelRange lo.now hi.now at ∷ []) T)) }
@@ -225,7 +237,12 @@ impl<V: Versions> TableRows<V> {
 
 /// The row of a put whose key and value are those of a row.
 #[tactic(auto, unfolding(crate::specs::Checks::row_in))]
-fn row_in(alloc: Global, d: &Descriptor, kinds: &[Kind], entry: &Entry) -> Result<Option<Row>, Memory>
+fn row_in(
+    alloc: Global,
+    d: &Descriptor,
+    kinds: &[Kind],
+    entry: &Entry,
+) -> Result<Option<Row>, Memory>
     ensures { IfOk result (λ r. r ≡ row_in d.now kinds.now entry.now) }
 {
     let Entry::Put { key, value, .. } = entry else {
@@ -253,7 +270,12 @@ fn add_row(rows: &mut Vec<Row>, row: Option<Row>) -> Result<(), Memory>
 }
 
 /// The rows of puts.
-fn rows_in(alloc: Global, d: &Descriptor, kinds: &[Kind], entries: &[Entry]) -> Result<Vec<Row>, Memory>
+fn rows_in(
+    alloc: Global,
+    d: &Descriptor,
+    kinds: &[Kind],
+    entries: &[Entry],
+) -> Result<Vec<Row>, Memory>
     ensures { IfOk result (λ v. v.items ≡ filter_map (row_in d.now kinds.now) entries.now) }
 {
     let mut rows = Vec::new(alloc);

@@ -27,7 +27,9 @@ fn table(alloc: Global, down: bool) -> Result<Descriptor, Memory> {
     let key = [(name(alloc, "k")?, down)];
     let database = name(alloc, "d")?;
     let table = name(alloc, "t")?;
-    Descriptor::create(alloc, 100, &database, &table, &columns, &key, &[], at(1)).map_err(|_| Memory)
+    Descriptor::create(alloc, 100, &database, &table, &columns, &key, &[], at(1)).map_err(
+        |_| Memory,
+    )
 }
 
 fn one(alloc: Global, x: Datum) -> Result<Row, Memory> {
@@ -46,11 +48,7 @@ fn two(alloc: Global, x: Datum, y: Datum) -> Result<Row, Memory> {
 /// A row of a key, NULL for -1, and a text of so many bytes; a number in its place for 70,000, and
 /// nothing for 80,000.
 fn row(alloc: Global, k: i64, len: u32) -> Result<Row, Memory> {
-    let key = if k == -1 {
-        Datum::Null
-    } else {
-        Datum::Int(k)
-    };
+    let key = if k == -1 { Datum::Null } else { Datum::Int(k) };
     if len == 80_000 {
         return one(alloc, key);
     }
@@ -80,13 +78,25 @@ fn fault_of(checked: Result<(), RowsFault>) -> (usize, usize) {
 }
 
 /// What is wrong with two rows.
-fn of_rows(alloc: Global, rows: &TableRows<FactList>, d: &Descriptor, a: (i64, u32), b: (i64, u32)) -> Result<(usize, usize), Memory> {
+fn of_rows(
+    alloc: Global,
+    rows: &TableRows<FactList>,
+    d: &Descriptor,
+    a: (i64, u32),
+    b: (i64, u32),
+) -> Result<(usize, usize), Memory> {
     let given = [row(alloc, a.0, a.1)?, row(alloc, b.0, b.1)?];
     Ok(fault_of(rows.check_rows(d, &given)))
 }
 
 /// What is wrong with two keys, and with the range between them.
-fn of_keys(alloc: Global, rows: &TableRows<FactList>, d: &Descriptor, a: i64, b: i64) -> Result<((usize, usize), (usize, usize)), Memory> {
+fn of_keys(
+    alloc: Global,
+    rows: &TableRows<FactList>,
+    d: &Descriptor,
+    a: i64,
+    b: i64,
+) -> Result<((usize, usize), (usize, usize)), Memory> {
     let given = [key(alloc, a)?, key(alloc, b)?];
     let range = rows.check_range(d, &given[0], &given[1]);
     Ok((fault_of(rows.check_keys(d, &given)), fault_of(range)))
@@ -146,7 +156,13 @@ fn shown(rows: &TableRows<FactList>, d: &Descriptor, t: u32) -> i64 {
 }
 
 /// Rows 2 to 8 at 2, and a range of keys deleted at 3.
-fn put_and_delete(alloc: Global, rows: &mut TableRows<FactList>, d: &Descriptor, lo: i64, hi: i64) -> Result<bool, Memory> {
+fn put_and_delete(
+    alloc: Global,
+    rows: &mut TableRows<FactList>,
+    d: &Descriptor,
+    lo: i64,
+    hi: i64,
+) -> Result<bool, Memory> {
     let mut given = Vec::new(alloc);
     for k in 2..9 {
         given.push(row(alloc, k, 1)?)?;

@@ -22,7 +22,8 @@ loop-key-preserved c =
     let kinds = c.args.kinds.now in
     let key = c.key-item.result in
     let is : IsKey kinds key = (passes (are_of_kinds kinds) c.args.keys.now c.loop-key.key-index key c.requires c.loop-key-test.true c.key-item.is, c.values_fit.ensures) in
-    let has = c.loop-key.invariant.2 c.in_ok-bytes.bytes key is c.in_ok-bytes.ensures in
-    (ap (λ (n : ℕ). n + 1) c.loop-key.invariant.0,
-     repeated_later (row_cmp kinds) c.args.keys.now c.loop-key.key-index key _ c.loop-key-test.true c.key-item.is (sym has ∙ was-unseen c.in_ok-insert.field-0 _ c.in_ok-insert.ensures.added c.if-not-branch.false) c.loop-key.invariant.1,
-     seen-more kinds c.loop-key.seen c.insert.new.self c.in_ok-bytes.bytes c.args.keys.now c.loop-key.key-index key c.loop-key-test.true c.key-item.is is c.in_ok-bytes.ensures c.in_ok-insert.ensures.updates c.loop-key.invariant.2)
+    let has = c.loop-key.invariant.2 c.in_ok-bytes.bytes key is c.in_ok-bytes.ensures in (
+      ap (λ (n : ℕ). n + 1) c.loop-key.invariant.0,
+      repeated_later (row_cmp kinds) c.args.keys.now c.loop-key.key-index key _ c.loop-key-test.true c.key-item.is (sym has ∙ was-unseen c.in_ok-insert.field-0 _ c.in_ok-insert.ensures.added c.if-not-branch.false) c.loop-key.invariant.1,
+      seen-more kinds c.loop-key.seen c.insert.new.self c.in_ok-bytes.bytes c.args.keys.now c.loop-key.key-index key c.loop-key-test.true c.key-item.is is c.in_ok-bytes.ensures c.in_ok-insert.ensures.updates c.loop-key.invariant.2,
+    )

@@ -24,7 +24,7 @@ delete_key-requires-clause-fits g c = passes (are_of_kinds (key_kinds c.args.d.n
 pub returns-in_err-delete_key-clause-part : goal.returns-in_err-delete_key-clause-part
 returns-in_err-delete_key-clause-part g c = err-always c.from_residual-in_err-delete_key.result (λ T has kinds may.
     front-has T c.args.d.now (deletion c.args.at) (λ k. k) c.args.keys.now kinds (ap (repeated_key c.args.d.now) (map-id c.args.keys.now) ∙ (keys-passed c.args.d.now c.args.keys.now c.requires).1)
-      (λ k. refl) (λ cmp k x. refl) (λ ks x is. is) (g.V.Versions.stands c.delete_key.new.self) c.loop-key.key-index (c.in_err-delete_key.ensures.kept _ (c.loop-key.invariant T has kinds may)))
+    (λ k. refl) (λ cmp k x. refl) (λ ks x is. is) (g.V.Versions.stands c.delete_key.new.self) c.loop-key.key-index (c.in_err-delete_key.ensures.kept _ (c.loop-key.invariant T has kinds may)))
 
 pub loop-key-preserved : goal.loop-key-preserved
 loop-key-preserved g c = (λ T has kinds may.
@@ -33,10 +33,10 @@ loop-key-preserved g c = (λ T has kinds may.
     let front = c.loop-key.invariant T has kinds may in
     let next = may (deletion c.args.at c.key-item.result) (has-map (deletion c.args.at) c.key-item.result c.args.keys.now (has-at c.args.keys.now c.loop-key.key-index c.key-item.result c.loop-key-test.true c.key-item.is)) in
     next-has T d (deletion c.args.at) (λ k. k) c.args.keys.now kinds once (λ k. refl) (λ cmp k x. refl) (λ ks x is. is) (g.V.Versions.stands c.delete_key.new.self) c.loop-key.key-index c.key-item.result c.loop-key-test.true c.key-item.is
-      (c.in_ok-delete_key.ensures.added _ front kinds
-        (next-may T d (deletion c.args.at) (λ k. k) c.args.keys.now kinds once (λ k. refl) (λ cmp k x. refl) (λ ks x is. is) (g.V.Versions.stands c.loop-key.self) c.loop-key.key-index c.key-item.result c.loop-key-test.true c.key-item.is front next)))
+    (c.in_ok-delete_key.ensures.added _ front kinds
+    (next-may T d (deletion c.args.at) (λ k. k) c.args.keys.now kinds once (λ k. refl) (λ cmp k x. refl) (λ ks x is. is) (g.V.Versions.stands c.loop-key.self) c.loop-key.key-index c.key-item.result c.loop-key-test.true c.key-item.is front next)))
 
 pub returns-clause-added : goal.returns-clause-added
 returns-clause-added g c = (λ T has kinds may.
     all-has T c.args.d.now (deletion c.args.at) (λ k. k) c.args.keys.now kinds (ap (repeated_key c.args.d.now) (map-id c.args.keys.now) ∙ (keys-passed c.args.d.now c.args.keys.now c.requires).1)
-      (λ k. refl) (λ cmp k x. refl) (λ ks x is. is) (g.V.Versions.stands c.loop-key.self) c.loop-key.key-index c.loop-key-test.false (c.loop-key.invariant T has kinds may))
+    (λ k. refl) (λ cmp k x. refl) (λ ks x is. is) (g.V.Versions.stands c.loop-key.self) c.loop-key.key-index c.loop-key-test.false (c.loop-key.invariant T has kinds may))

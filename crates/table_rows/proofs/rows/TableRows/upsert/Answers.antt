@@ -19,7 +19,7 @@ put_row-requires-clause-fits g c = right (wrong_column c.args.d.now) 1 c.args.ro
 pub returns-in_err-put_row-clause-part : goal.returns-in_err-put_row-clause-part
 returns-in_err-put_row-clause-part g c = err-always c.from_residual-in_err-put_row.result (λ T has kinds may.
     front-has T c.args.d.now (put_of c.args.d.now c.args.at) (key_of c.args.d.now) c.args.rows.now kinds (rows-passed c.args.d.now c.args.rows.now c.requires).1
-      (λ r. refl) (λ cmp k r. refl) (λ ks r is. is.0) (g.V.Versions.stands c.put_row.new.self) c.loop-row.row-index (c.in_err-put_row.ensures.kept _ (c.loop-row.invariant T has kinds may)))
+    (λ r. refl) (λ cmp k r. refl) (λ ks r is. is.0) (g.V.Versions.stands c.put_row.new.self) c.loop-row.row-index (c.in_err-put_row.ensures.kept _ (c.loop-row.invariant T has kinds may)))
 
 pub loop-row-preserved : goal.loop-row-preserved
 loop-row-preserved g c = (λ T has kinds may.
@@ -28,10 +28,10 @@ loop-row-preserved g c = (λ T has kinds may.
     let front = c.loop-row.invariant T has kinds may in
     let next = may (put_of d c.args.at c.row-item.result) (has-map (put_of d c.args.at) c.row-item.result c.args.rows.now (has-at c.args.rows.now c.loop-row.row-index c.row-item.result c.loop-row-test.true c.row-item.is)) in
     next-has T d (put_of d c.args.at) (key_of d) c.args.rows.now kinds once (λ r. refl) (λ cmp k r. refl) (λ ks r is. is.0) (g.V.Versions.stands c.put_row.new.self) c.loop-row.row-index c.row-item.result c.loop-row-test.true c.row-item.is
-      (c.in_ok-put_row.ensures.added _ front kinds
-        (next-may T d (put_of d c.args.at) (key_of d) c.args.rows.now kinds once (λ r. refl) (λ cmp k r. refl) (λ ks r is. is.0) (g.V.Versions.stands c.loop-row.self) c.loop-row.row-index c.row-item.result c.loop-row-test.true c.row-item.is front next)))
+    (c.in_ok-put_row.ensures.added _ front kinds
+    (next-may T d (put_of d c.args.at) (key_of d) c.args.rows.now kinds once (λ r. refl) (λ cmp k r. refl) (λ ks r is. is.0) (g.V.Versions.stands c.loop-row.self) c.loop-row.row-index c.row-item.result c.loop-row-test.true c.row-item.is front next)))
 
 pub returns-clause-added : goal.returns-clause-added
 returns-clause-added g c = (λ T has kinds may.
     all-has T c.args.d.now (put_of c.args.d.now c.args.at) (key_of c.args.d.now) c.args.rows.now kinds (rows-passed c.args.d.now c.args.rows.now c.requires).1
-      (λ r. refl) (λ cmp k r. refl) (λ ks r is. is.0) (g.V.Versions.stands c.loop-row.self) c.loop-row.row-index c.loop-row-test.false (c.loop-row.invariant T has kinds may))
+    (λ r. refl) (λ cmp k r. refl) (λ ks r is. is.0) (g.V.Versions.stands c.loop-row.self) c.loop-row.row-index c.loop-row-test.false (c.loop-row.invariant T has kinds may))
