@@ -1,6 +1,8 @@
 -- Single steps of the readers' loops.
-use Rattle.std.proofs.Common.{◌≡◌, ℕ, zero, suc, ◌+◌, ◌<◌, false, List, [], ◌∷◌, ◌++◌, length, drop, arith, refl, ◌-◌, Result, Ok}
-use Rattle.table_descriptors.specs.Fields.{read_items}
+use Rattle.std.proofs.Common.{◌≡◌, ℕ, zero, suc, ◌+◌, ◌<◌, true, false, List, [], ◌∷◌, ◌++◌, length, drop, arith, refl, ◌-◌, Result, Ok}
+use Rattle.std.specs.Str.{bytes_eq}
+use Rattle.table_descriptors.specs.Fields.{read_items, read_exactly}
+use Rattle.layer_manifest.specs.ManifestFiles.{version_code, read_version}
 use Rattle.std.proofs.lemmas.List.Sums.{sum_by-append}
 use Rattle.row_codec.specs.declared.rows.Kind.{Kind}
 use Rattle.layer_manifest.specs.Manifests.{same_kinds, chunk_count}
@@ -24,3 +26,7 @@ read_step one (suc n) before after b t x whole p e a h =
     let less : suc n - 1 ≡ n = omega arith in
     let was = rw e at h in
     rw (less, a) was
+
+-- the second mark was read
+pub second_version : (b mark rest : List ℕ) → read_exactly 4 b ≡ Ok (mark, rest) → false ≡ bytes_eq mark (version_code 1) → true ≡ bytes_eq mark (version_code 2) → read_version b ≡ Ok (2, rest)
+second_version b mark rest e first second = rw (e, ← first, ← second, ← first) refl
