@@ -1,12 +1,11 @@
 -- Where the entries of a chunk begin in its bytes.
-use Rattle.std.specs.Prelude.{◌≡◌, ℕ, ◌+◌, ◌≤◌, Option, Some, None, Result, Ok, Err, List, [], ◌∷◌, ◌++◌, length, drop}
+use Rattle.std.specs.Prelude.{◌≡◌, ℕ, ◌+◌, ◌≤◌, Result, Ok, Err, List, [], ◌∷◌, ◌++◌, length, drop, nat_eq, if◌then◌else◌}
 use Rattle.std.specs.List.{AllByRecursion}
 use Rattle.mvcc_keys.specs.declared.entries.Entry.{Entry}
-use Rattle.mvcc_keys.specs.declared.entries.EntryView.{EntryView}
 use Rattle.row_codec.specs.declared.rows.Kind.{Kind}
 use Rattle.chunk_file.specs.declared.checks.Head.{Head}
 use Rattle.chunk_file.specs.declared.malformed.Malformed.{Malformed}
-use Rattle.chunk_file.specs.Entries.{IsStored, entries_code, listed, seen}
+use Rattle.chunk_file.specs.Entries.{IsStored, entries_code, entry_code, listed}
 use Rattle.chunk_file.specs.Chunks.{IsSpelled, chunk_bytes, head_code, read_chunk}
 
 -- at this offset of a chunk those of its entries begin that are left; where none is left, its bytes end
@@ -19,11 +18,14 @@ pub record Begins (entries : List Entry) (offset : ℕ) (left : List Entry) : Ty
 abbrev pub IsEntryStart : List Entry → ℕ → Type 0
 IsEntryStart entries offset = (left : List Entry) × Begins entries offset left
 
--- the first of the entries that are left, and the offset at which the others begin
-abbrev pub IsNext : List Entry → List Entry → Option (EntryView × ℕ) → Type 0
-IsNext entries [] None = Unit {0}
-IsNext entries (e ∷ left) (Some p) = (seen p.0 ≡ e) × Begins entries p.1 left
-IsNext entries left found = ⊥
+-- the entries of a list from the one that begins at an offset, where the first begins at another
+abbrev pub left_from : ℕ → List Entry → ℕ → List Entry
+left_from at [] offset = []
+left_from at (e ∷ es) offset = if nat_eq offset at then e ∷ es else left_from (at + length (entry_code e)) es offset
+
+-- the entries of a chunk from the one that begins at an offset of its bytes; none at their end
+unfoldable pub left_at : List Entry → ℕ → List Entry
+left_at entries offset = left_from (length (head_code entries)) entries offset
 
 -- ---- inside
 

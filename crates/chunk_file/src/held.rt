@@ -1,8 +1,8 @@
 //! A chunk that owns its bytes, for a caller who holds it while it walks the entries.
-ghost use Rattle.std.specs.Prelude.{◌≡◌, ◌↔◌, IfOk, IfSome, IsNone, List, length};
-ghost use Rattle.mvcc_keys.specs.declared.entries.Entry.{Entry};
-ghost use Rattle.chunk_file.specs.Chunks.{IsSpelled, answered, chunk_bytes, read_chunk};
-ghost use Rattle.chunk_file.specs.Held.{Begins, IsEntryStart, IsNext};
+ghost use Rattle.std.specs.Prelude.{◌≡◌, ◌↔◌, ◌<◌, ◌≤◌, IfOk, IfSome, IsNone, MatchOption, [], ◌∷◌, length};
+ghost use Rattle.chunk_file.specs.Entries.{seen};
+ghost use Rattle.chunk_file.specs.Chunks.{IsSpelled, answered, chunk_bytes, head_code, read_chunk};
+ghost use Rattle.chunk_file.specs.Held.{IsEntryStart, left_at};
 
 use crate::checks::check_chunk;
 use crate::reading::take_entry;
@@ -47,17 +47,19 @@ impl HeldChunk {
 
     /// The offset of the first entry.
     pub fn first(&self) -> usize
-        ensures { Begins self.now result self.now }
+        ensures place { result ≡ length (head_code self.now) }
+        ensures start { IsEntryStart self.now result }
+        ensures all { left_at self.now result ≡ self.now }
     {
         self.first
     }
 
-    /// The entry that begins at an offset, and the offset after it. A walk from `first` by the
-    /// offsets that come out gives the entries of the chunk in order, and then None.
+    /// The entry that begins at an offset, and the offset after it; None at the end of the bytes. A
+    /// walk from `first` by the offsets that come out gives the entries of the chunk in order.
     pub fn entry_at(&self, offset: usize) -> Option<(EntryView<'_>, usize)>
         requires { IsEntryStart self.now offset }
-        ensures entry { (left : List Entry) → Begins self.now offset left → IsNext self.now left result }
-        ensures next { IfSome result (λ p. IsEntryStart self.now p.1) }
+        ensures entry { MatchOption result (left_at self.now offset ≡ []) (λ p. left_at self.now offset ≡ seen p.0 ∷ left_at self.now p.1) }
+        ensures next { IfSome result (λ p. IsEntryStart self.now p.1 × (offset < p.1) × (p.1 ≤ length (chunk_bytes self.now))) }
         ensures ends { IsNone result ↔ (offset ≡ length (chunk_bytes self.now)) }
     {
         let bytes = self.bytes.as_slice();

@@ -1,5 +1,5 @@
 use Rattle.std.proofs.Common.{ℕ, List, length, arith, refl, sym, ap}
-use Rattle.chunk_file.proofs.HeldLaws.{next-start, stands-at, took, took-none}
+use Rattle.chunk_file.proofs.HeldLaws.{stands-at, took, took-none}
 use Rattle.chunk_file.proofs.held.HeldChunk.entry_at.Goals as goal
 
 pub split_at-requires : goal.split_at-requires
@@ -12,20 +12,21 @@ pub overflow_sub-result : goal.overflow_sub-result
 overflow_sub-result c =
     let at = rw (← c.self.view_is) at c.requires in
     let read = rw (c.split_at.ensures.back, c.as_slice-bytes.ensures.value) at (sym c.in-Some.ensures) in
-    rw c.as_slice-bytes.ensures.value (took c.self.inside.bytes.items c.self.inside.first c.args.offset _ _ at.0 c.in-Some.entry c.in-Some.rest.now c.self.invariant at.1 read refl).2
+    rw c.as_slice-bytes.ensures.value (took c.self.inside.bytes.items c.self.inside.first c.args.offset _ _ at.0 c.in-Some.entry c.in-Some.rest.now c.self.invariant at.1 read refl).0.fits
 
 pub returns-in-Some-clause-entry : goal.returns-in-Some-clause-entry
 returns-in-Some-clause-entry c =
+    let at = rw (← c.self.view_is) at c.requires in
     let read = rw (c.split_at.ensures.back, c.as_slice-bytes.ensures.value) at (sym c.in-Some.ensures) in
-    rw (← c.self.view_is, c.as_slice-bytes.ensures.value) (λ left at.
-    (took c.self.inside.bytes.items c.self.inside.first c.args.offset _ _ left c.in-Some.entry c.in-Some.rest.now c.self.invariant at read refl).0)
+    rw (← c.self.view_is, c.as_slice-bytes.ensures.value) (took c.self.inside.bytes.items c.self.inside.first c.args.offset _ _ at.0 c.in-Some.entry c.in-Some.rest.now c.self.invariant at.1 read refl).0.entry
 
 pub returns-in-Some-clause-next : goal.returns-in-Some-clause-next
 returns-in-Some-clause-next c =
     let at = rw (← c.self.view_is) at c.requires in
     let read = rw (c.split_at.ensures.back, c.as_slice-bytes.ensures.value) at (sym c.in-Some.ensures) in
-    let step = took c.self.inside.bytes.items c.self.inside.first c.args.offset _ _ at.0 c.in-Some.entry c.in-Some.rest.now c.self.invariant at.1 read refl in
-    rw (← c.self.view_is, c.as_slice-bytes.ensures.value) (next-start _ at.0 c.in-Some.entry _ step.0)
+    let step = (took c.self.inside.bytes.items c.self.inside.first c.args.offset _ _ at.0 c.in-Some.entry c.in-Some.rest.now c.self.invariant at.1 read refl).0 in
+    let whole = ap (λ (t : List ℕ). length t) c.self.invariant.bytes in
+    rw (← c.self.view_is, c.as_slice-bytes.ensures.value) (step.start, step.later, omega (arith, step.within, whole))
 
 pub returns-in-Some-clause-ends : goal.returns-in-Some-clause-ends
 returns-in-Some-clause-ends c =
@@ -37,8 +38,9 @@ returns-in-Some-clause-ends c =
 
 pub returns-in-None-clause-entry : goal.returns-in-None-clause-entry
 returns-in-None-clause-entry c =
+    let at = rw (← c.self.view_is) at c.requires in
     let read = rw (c.split_at.ensures.back, c.as_slice-bytes.ensures.value) at (sym c.in-None.ensures) in
-    rw (← c.self.view_is) (λ left at. (took-none c.self.inside.bytes.items c.self.inside.first c.args.offset _ left c.self.invariant at read).0)
+    rw (← c.self.view_is) (took-none c.self.inside.bytes.items c.self.inside.first c.args.offset _ at.0 c.self.invariant at.1 read).0
 
 pub returns-in-None-clause-ends : goal.returns-in-None-clause-ends
 returns-in-None-clause-ends c =
