@@ -12,7 +12,7 @@ pub returns-then-self-eq0-clause-malformed : goal.returns-then-self-eq0-clause-m
 returns-then-self-eq0-clause-malformed c =
     let b = c.args.byte in
     rw (← c.self.view_is) (last_said c.malformed_said.result (malformed_text c.self.inside.line (length c.as_slice.result.now + 1)) (λ (worlds : List World) (more : List ℕ). outcome_of_rest worlds (view_of c.self.inside) (b ∷ more)) c.malformed_said.ensures.text
-      (subst (λ (p : List ℕ). (worlds : List World) (more : List ℕ) → IsLast (malformed_text c.self.inside.line (length p + 1)) (outcome_of_rest worlds (view_of c.self.inside) (b ∷ more))) (sym c.as_slice.ensures.value) (last_beyond _ b c.if-self-eq0.true c.self.invariant.line)))
+    (subst (λ (p : List ℕ). (worlds : List World) (more : List ℕ) → IsLast (malformed_text c.self.inside.line (length p + 1)) (outcome_of_rest worlds (view_of c.self.inside) (b ∷ more))) (sym c.as_slice.ensures.value) (last_beyond _ b c.if-self-eq0.true c.self.invariant.line)))
 
 pub returns-then-byte-eq10-clause-malformed : goal.returns-then-byte-eq10-clause-malformed
 returns-then-byte-eq10-clause-malformed c =
