@@ -3,8 +3,9 @@ use Rattle.std.proofs.Common.{◌≡◌, ◌≢◌, ℕ, zero, suc, ◌+◌, ◌
 use Rattle.std.specs.Prelude.{Option, is_none}
 use Rattle.std.proofs.lemmas.Bool.Decides.{nat_tests}
 use Rattle.std.proofs.lemmas.List.{append-nil, nil_from_length}
+use Rattle.std.proofs.Math.Nat.{min-eq_left, min-eq_right}
 use Rattle.machine_model.specs.Machine.{World, Machine}
-use Rattle.machine_model.specs.Script.{Line, Within, Beyond, put_front, lines, Outcome, outcome, malformed_at, malformed_text, read_at}
+use Rattle.machine_model.specs.Script.{Line, Within, Beyond, put_front, lines, Outcome, outcome, malformed_at, column_beyond, read_at}
 use Rattle.command_lang.specs.Lines.{reading, Malformed}
 use Rattle.backup_run.specs.Run.{At, put_all, with_refused, outcome_of_lines, outcome_of_rest}
 
@@ -26,22 +27,27 @@ unfolding reading
 long_line first line long = let t : ltb 65536 (length line) ≡ true = grind (arith, nat_tests) in rw t refl
 
 -- where the line so far has all the bytes that a line may have, another byte makes it malformed
-too_long : (worlds : List World) (n : ℕ) (m : Option Machine) (p : List ℕ) (b : ℕ) (ls : List Line) → length p ≡ 65536 → outcome worlds n m (put_all p (put_front b ls)) ≡ malformed_at n
+too_long : (worlds : List World) (n : ℕ) (m : Option Machine) (p : List ℕ) (b : ℕ) (ls : List Line) → length p ≡ 65536 → outcome worlds n m (put_all p (put_front b ls)) ≡ malformed_at n 65537
 unfolding outcome
 too_long worlds n m p b [] full =
     rw (put_all_within p (b ∷ []) [], long_line (is_none m) (p ++ b ∷ []) (omega (arith, length-append p (b ∷ [])))) refl
 too_long worlds n m p b (Within x ∷ ls) full =
     rw (put_all_within p (b ∷ x) ls, long_line (is_none m) (p ++ b ∷ x) (omega (arith, length-append p (b ∷ x)))) refl
-too_long worlds n m p b (Beyond x ∷ ls) full = rw (put_all_beyond p (b ∷ x) ls) refl
+too_long worlds n m p b (Beyond x ∷ ls) full =
+    let len : length (p ++ b ∷ x) ≡ length p + length (b ∷ x) = length-append p (b ∷ x) in
+    let column : column_beyond (p ++ b ∷ x) ≡ 65537 = min-eq_left (omega (arith, len, full)) in
+    rw (put_all_beyond p (b ∷ x) ls, column) refl
 
-pub rest_too_long : (worlds : List World) (a : At) (room b : ℕ) (more : List ℕ) → a.room ≡ suc room → eqb b 10 ≡ false → length a.pending ≡ 65536 → outcome_of_rest worlds a (b ∷ more) ≡ with_refused a.refused (malformed_at a.line)
+pub rest_too_long : (worlds : List World) (a : At) (room b : ℕ) (more : List ℕ) → a.room ≡ suc room → eqb b 10 ≡ false → length a.pending ≡ 65536 → outcome_of_rest worlds a (b ∷ more) ≡ with_refused a.refused (malformed_at a.line 65537)
 unfolding outcome_of_rest outcome_of_lines lines
 rest_too_long worlds a room b more is other full = rw (is, other, too_long worlds a.line a.machine a.pending b (lines room more) full) refl
 
 -- the script has no room for another byte
-pub rest_beyond : (worlds : List World) (a : At) (b : ℕ) (more : List ℕ) → a.room ≡ 0 → outcome_of_rest worlds a (b ∷ more) ≡ with_refused a.refused (malformed_at a.line)
+pub rest_beyond : (worlds : List World) (a : At) (b : ℕ) (more : List ℕ) → a.room ≡ 0 → length a.pending ≤ 65536 → outcome_of_rest worlds a (b ∷ more) ≡ with_refused a.refused (malformed_at a.line (length a.pending + 1))
 unfolding outcome_of_rest outcome_of_lines lines outcome
-rest_beyond worlds a b more is = rw (is, put_all_beyond a.pending [] []) refl
+rest_beyond worlds a b more is fits =
+    let column : column_beyond (a.pending ++ []) ≡ length a.pending + 1 = ap (λ (p : List ℕ). column_beyond p) (append-nil a.pending) ∙ min-eq_right (omega (arith, fits)) in
+    rw (is, put_all_beyond a.pending [] [], column) refl
 
 -- a newline ends the line
 pub rest_newline : (worlds : List World) (a : At) (room b : ℕ) (more : List ℕ) → a.room ≡ suc room → eqb b 10 ≡ true → outcome_of_rest worlds a (b ∷ more) ≡ outcome_of_lines worlds a (Within a.pending ∷ lines room more)

@@ -15,15 +15,15 @@ pub last_said : (r : Result Said Memory) (t : List ℕ) (F : List World → List
 last_said (Ok s) t F e h = λ _ worlds more. rw e (h worlds more)
 last_said (Err m) t F e h = tt
 
-is_last : (n : ℕ) (refused : Bool) (o : Outcome) → o ≡ with_refused refused (malformed_at n) → IsLast (malformed_text n) o
-is_last n refused o e = (ap (λ x. x.text) e, ap (λ x. x.malformed) e)
+is_last : (n column : ℕ) (refused : Bool) (o : Outcome) → o ≡ with_refused refused (malformed_at n column) → IsLast (malformed_text n column) o
+is_last n column refused o e = (ap (λ x. x.text) e, ap (λ x. x.malformed) e)
 
-pub last_beyond : (a : At) (b : ℕ) → a.room ≡ 0 → (worlds : List World) (more : List ℕ) → IsLast (malformed_text a.line) (outcome_of_rest worlds a (b ∷ more))
-last_beyond a b is worlds more = is_last a.line a.refused _ (rest_beyond worlds a b more is)
+pub last_beyond : (a : At) (b : ℕ) → a.room ≡ 0 → length a.pending ≤ 65536 → (worlds : List World) (more : List ℕ) → IsLast (malformed_text a.line (length a.pending + 1)) (outcome_of_rest worlds a (b ∷ more))
+last_beyond a b is fits worlds more = is_last a.line (length a.pending + 1) a.refused _ (rest_beyond worlds a b more is fits)
 
-pub last_too_long : (a : At) (b : ℕ) → a.room ≢ 0 → b ≢ 10 → length a.pending ≡ 65536 → (worlds : List World) (more : List ℕ) → IsLast (malformed_text a.line) (outcome_of_rest worlds a (b ∷ more))
+pub last_too_long : (a : At) (b : ℕ) → a.room ≢ 0 → b ≢ 10 → length a.pending ≡ 65536 → (worlds : List World) (more : List ℕ) → IsLast (malformed_text a.line 65537) (outcome_of_rest worlds a (b ∷ more))
 last_too_long a b some other full worlds more =
-    is_last a.line a.refused _ (rest_too_long worlds a (a.room - 1) b more (omega arith) (grind (arith, nat_tests)) full)
+    is_last a.line 65537 a.refused _ (rest_too_long worlds a (a.room - 1) b more (omega arith) (grind (arith, nat_tests)) full)
 
 -- a room less, for the lines that come next it is the same
 same_lines : (worlds : List World) (a : At) (k : ℕ) (ls : List Line) → outcome_of_lines worlds (record a { room = k }) ls ≡ outcome_of_lines worlds a ls

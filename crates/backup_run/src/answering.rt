@@ -76,21 +76,21 @@ fn execute(
 }
 
 /// The last line of a script with a malformed line.
-fn malformed_line(alloc: Global, line: u32) -> Result<Vec<u8>, Memory>
-    ensures { IfOk result (λ v. v.items ≡ malformed_text line) }
+fn malformed_line(alloc: Global, line: u32, column: usize) -> Result<Vec<u8>, Memory>
+    ensures { IfOk result (λ v. v.items ≡ malformed_text line column) }
 {
-    let text = format!(in alloc; "malformed line={line}\n")?;
+    let text = format!(in alloc; "malformed line={line} column={column}\n")?;
     Ok(Vec::from_slice(alloc, text.as_bytes())?)
 }
 
 /// The last words of a script with a malformed line.
-pub fn malformed_said(alloc: Global, line: u32) -> Result<Said, Memory>
-    ensures text { IfOk result (λ said. said.text.items ≡ malformed_text line) }
+pub fn malformed_said(alloc: Global, line: u32, column: usize) -> Result<Said, Memory>
+    ensures text { IfOk result (λ said. said.text.items ≡ malformed_text line column) }
     ensures malformed { IfOk result (λ said. said.malformed ≡ true) }
     ensures refused { IfOk result (λ said. said.refused ≡ false) }
 {
     Ok(Said {
-        text: malformed_line(alloc, line)?,
+        text: malformed_line(alloc, line, column)?,
         refused: false,
         malformed: true,
     })
@@ -109,7 +109,7 @@ fn command_said(
 {
     match execute(alloc, cluster, command)? {
         Some(response) => response_said(alloc, response),
-        None => malformed_said(alloc, number),
+        None => malformed_said(alloc, number, 1),
     }
 }
 
@@ -147,7 +147,7 @@ pub fn line_said(
     match parse_line(alloc, line, first) {
         Ok(None) => Ok(nothing_said(alloc)),
         Ok(Some(command)) => command_said(alloc, cluster, number, &command),
-        Err(LineFault::Wrong { .. }) => malformed_said(alloc, number),
+        Err(LineFault::Wrong { column }) => malformed_said(alloc, number, column),
         Err(LineFault::Memory) => Err(Memory),
     }
 }

@@ -99,14 +99,15 @@ impl Session {
         ensures quiet { IfOk result (λ said. said.malformed ≡ false → byte ≢ 10 → said.text.items ≡ []) }
     {
         if self.room == 0 {
-            return malformed_said(self.alloc, self.line);
+            let column = self.pending.as_slice().len() + 1;
+            return malformed_said(self.alloc, self.line, column);
         }
         if byte == b'\n' {
             self.room -= 1;
             return self.end_line();
         }
         if self.pending.len() == 65_536 {
-            return malformed_said(self.alloc, self.line);
+            return malformed_said(self.alloc, self.line, 65_537);
         }
         self.room -= 1;
         self.pending.push(byte)?;

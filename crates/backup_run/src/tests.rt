@@ -121,9 +121,14 @@ fn each_status_comes_by_its_cause(rt: HostRuntime) -> Result<(), Fail> {
             b"CLUSTER a\nCREATE DATABASE d\nUPSERT INTO d.t VALUES (1, 'a",
             &[],
             3,
-            b"ok\nmalformed line=3\n",
+            b"ok\nmalformed line=3 column=28\n",
         ),
-        (b"CREATE DATABASE d\n", &[], 3, b"malformed line=1\n"),
+        (
+            b"CREATE DATABASE d\n",
+            &[],
+            3,
+            b"malformed line=1 column=1\n",
+        ),
         (b"CLUSTER a\nCREATE DATABASE d\nTICK 7", &[2], 4, b"ok\n"),
     ];
     for (script, fails, code, text) in cases.iter() {
@@ -194,7 +199,10 @@ fn a_line_has_at_most_65536_bytes(rt: HostRuntime) -> Result<(), Fail> {
     assert_eq!(rt; run_over(alloc, &line, &[])?.code, 0);
     line.push(b'-')?;
     let long = run_over(alloc, &line, &[])?;
-    assert_eq!(rt; long.text.as_slice(), b"malformed line=1\n".as_slice());
+    assert_eq!(rt;
+        long.text.as_slice(),
+        b"malformed line=1 column=65537\n".as_slice()
+    );
     assert_eq!(rt; long.code, 3);
     Ok(())
 }

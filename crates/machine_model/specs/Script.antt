@@ -1,5 +1,5 @@
 -- Scripts: their lines, and what they are answered.
-use Rattle.std.specs.Prelude.{ℕ, zero, suc, ◌+◌, Bool, true, false, ◌||◌, ◌==◌, List, [], ◌∷◌, ◌++◌, codes, Option, Some, None, is_none, option_map, if◌then◌else◌}
+use Rattle.std.specs.Prelude.{ℕ, zero, suc, ◌+◌, Bool, true, false, ◌||◌, ◌==◌, List, [], ◌∷◌, ◌++◌, codes, length, min, Option, Some, None, is_none, option_map, if◌then◌else◌}
 use Rattle.std.specs.List.{list_any}
 use Rattle.std.specs.Fmt.{decimal}
 use Rattle.mvcc_keys.specs.Times.{zero_time}
@@ -55,11 +55,16 @@ abbrev pub after_reply : Response → Outcome → Outcome
 after_reply r o = record { text = reply_text r ++ o.text; refused = is_refusal r || o.refused; malformed = o.malformed }
 
 -- the last line of a script with a malformed line
-abbrev pub malformed_text : ℕ → List ℕ
-malformed_text line = codes "malformed line=" ++ (decimal line ++ codes "\n")
+abbrev pub malformed_text : ℕ → ℕ → List ℕ
+malformed_text line column = codes "malformed line=" ++ (decimal line ++ (codes " column=" ++ (decimal column ++ codes "\n")))
 
-abbrev pub malformed_at : ℕ → Outcome
-malformed_at line = record { text = malformed_text line; refused = false; malformed = true }
+abbrev pub malformed_at : ℕ → ℕ → Outcome
+malformed_at line column = record { text = malformed_text line column; refused = false; malformed = true }
+
+-- the column of a line in which the script passes its limit, where it has these bytes before: that of the next byte, or the first
+-- past a line's limit
+abbrev pub column_beyond : List ℕ → ℕ
+column_beyond bytes = min 65537 (length bytes + 1)
 
 -- the program's cluster begins at clock 0.0000000000, with 1,000,000 events and 4,096 tables
 unfoldable pub first_machine : List ℕ → Machine
@@ -83,14 +88,14 @@ response_of s = option_map (λ (x : Stepped). x.response) s
 
 -- a reply and then an outcome; without a reply the line is malformed
 abbrev pub reply_before : ℕ → Option Response → Outcome → Outcome
-reply_before line None o = malformed_at line
+reply_before line None o = malformed_at line 1
 reply_before line (Some r) o = after_reply r o
 
 -- what a line is answered, and then an outcome
 abbrev pub reading_before : List World → ℕ → Option Machine → Reading → Outcome → Outcome
 reading_before worlds n m Skipped o = o
 reading_before worlds n m (Reads c) o = reply_before n (response_of (command_step worlds m c)) o
-reading_before worlds n m (Malformed column) o = malformed_at n
+reading_before worlds n m (Malformed column) o = malformed_at n column
 
 -- the machine after a line
 abbrev pub machine_after : List World → Option Machine → Reading → Option Machine
@@ -105,7 +110,7 @@ read_at m line = reading (is_none m) line
 -- the outcome of lines from number n on, at this machine
 unfoldable pub outcome : List World → ℕ → Option Machine → List Line → Outcome
 outcome worlds n m [] = no_more
-outcome worlds n m (Beyond bytes ∷ ls) = malformed_at n
+outcome worlds n m (Beyond bytes ∷ ls) = malformed_at n (column_beyond bytes)
 outcome worlds n m (Within line ∷ ls) = reading_before worlds n m (read_at m line) (outcome worlds (n + 1) (machine_after worlds m (read_at m line)) ls)
 
 -- the outcome of a whole script, of at most 67,108,864 bytes
