@@ -206,6 +206,39 @@ fn faults_of_the_second_version(rt: HostRuntime) -> Result<(), Fail> {
     Ok(())
 }
 
+/// A manifest of tables 100 and 102 by their ids, which holds none of them.
+fn of_tables(alloc: Global) -> Result<Vec<u8>, Memory> {
+    let mut out = Vec::new(alloc);
+    append(&mut out, b"MAN1")?;
+    append(&mut out, &FRONT[..52])?;
+    append(&mut out, &[0x02, 0x8a, 0xec, 0xee, 0x88])?;
+    Ok(out)
+}
+
+#[test]
+fn scope_of_tables(rt: HostRuntime) -> Result<(), Fail> {
+    let spelling = of_tables(rt.alloc()).expect(&rt, "memory");
+    let Ok(m) = read_manifest_bytes(rt.alloc(), spelling.as_slice()) else {
+        panic!(rt; "not read")
+    };
+    match &m.scope {
+        Scope::Database(_) => assert!(rt; false),
+        Scope::Tables(ids) => assert_eq!(rt; ids.as_slice(), [100, 102].as_slice()),
+    }
+    let mut out = Vec::new(rt.alloc());
+    assert!(rt; write_manifest(&m, &mut out).is_ok());
+    assert_eq!(rt; out.as_slice(), spelling.as_slice());
+    // no ids, more than ascend, the same id twice, a lower one
+    let cases: [(usize, u8); 4] = [(57, 0x88), (57, 0x8c), (59, 0xec), (59, 0xeb)];
+    for (at, byte) in cases.iter() {
+        assert_eq!(rt;
+            fault(rt.alloc(), spelling.as_slice(), *at, *byte),
+            Some(56)
+        );
+    }
+    Ok(())
+}
+
 /// So many bytes of a manifest, and a count of 2 ^ 63.
 fn huge(alloc: Global, spelling: &[u8], at: usize) -> Option<usize> {
     let mut cut = Vec::from_slice(alloc, spelling).ok()?;
