@@ -3,8 +3,12 @@ use Rattle.std.specs.Prelude.{◌≡◌, ◌⊎◌, true, List, map, IsPermutati
 use Rattle.std.specs.declared.cmp.Ordering.{Ordering}
 use Rattle.mvcc_keys.specs.Times.{Time, time_le}
 use Rattle.fact_model.specs.Facts.{Fact, Put, Del, DelRange, IsApart, IsKeyOrder, Has, value}
-use Rattle.fact_model.specs.Scans.{scan, kept}
+use Rattle.fact_model.specs.Scans.{Item, scan, IsScan, kept}
 use Rattle.fact_model.specs.Mapped.{map_fact, map_version, map_item}
+
+-- a scan ascends and has exactly the visible items, and no other list does
+abbrev pub ScansAreExact : Type 0 → Type 0 → Type 0
+ScansAreExact K V = (cmp : K → K → Ordering) (fs : List (Fact K V)) (t : Time) → IsKeyOrder cmp → IsScan cmp t fs (scan cmp t fs) × ((is : List (Item K V)) → IsScan cmp t fs is → is ≡ scan cmp t fs)
 
 -- from a collection's time on, what is kept says what all facts say
 abbrev pub KeptSuffices : Type 0 → Type 0 → Type 0

@@ -1,5 +1,11 @@
 //! What holds of dated facts.
-ghost use Rattle.fact_model.specs.Laws.{KeptSuffices, KeptOnceMore, OrderIsFree, MapsCarry};
+ghost use Rattle.fact_model.specs.Laws.{ScansAreExact, KeptSuffices, KeptOnceMore, OrderIsFree, MapsCarry};
+
+/// A law: a scan ascends by key and has exactly the puts that are the newest facts of their keys;
+/// no other list does.
+pub fn scans_are_exact<K, V>()
+    ensures { ScansAreExact K V }
+{}
 
 /// A law: what is kept when the history up to a time is collected says of that time and each
 /// later one what all facts say.

@@ -3,4 +3,4 @@
 
 mod laws;
 
-pub use laws::{kept_once_more, kept_suffices, maps_carry, order_is_free};
+pub use laws::{kept_once_more, kept_suffices, maps_carry, order_is_free, scans_are_exact};

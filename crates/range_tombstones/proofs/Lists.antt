@@ -1,5 +1,5 @@
 -- Lists that ascend, filters, and last elements.
-use Rattle.std.proofs.Common.{◌≡◌, ℕ, ◌<◌, ◌≤◌, ◌+◌, zero, suc, ◌-◌, Bool, true, false, not, cond, List, [], ◌∷◌, ◌++◌, length, get_or, set, take, drop, Result, Ok, Err, OnOk, OnErr, Some, option_map, map, filter, refl, sym, ap, ap₂, ◌∙◌, subst, arith, true≢false, ◌⊎◌, inl, inr}
+use Rattle.std.proofs.Common.{◌≡◌, ℕ, ◌<◌, ◌≤◌, ◌+◌, zero, suc, ◌-◌, Bool, true, false, not, cond, List, [], ◌∷◌, ◌++◌, length, get_or, set, take, drop, Result, Ok, Err, OnOk, OnErr, Some, map, filter, refl, sym, ap, ap₂, ◌∙◌, subst, arith, true≢false, ◌⊎◌, inl, inr}
 use Rattle.std.specs.List.{AllByRecursion, slice_get}
 use Rattle.std.specs.Result.{is_err}
 use Rattle.std.proofs.lemmas.Grind.{common_steps}
@@ -91,14 +91,6 @@ back p (x ∷ xs) zero l a b = rw (b 0 x (omega arith) (omega arith)) (ap (λ ys
 back p (x ∷ xs) (suc i) l a b = rw (a 0 x (omega arith)) (back p xs i (omega arith) (λ k d h. a (suc k) d (omega arith)) (λ k d h g. b (suc k) d (omega arith) (omega arith)))
 
 -- ---- last elements
-
-pub last-after : {X Y : Type 0} (f : X → Y) (x : X) (xs : List X) → last_after (f x) (map f xs) ≡ f (last_after x xs)
-last-after f x [] = refl
-last-after f x (y ∷ ys) = last-after f y ys
-
-pub last-map : {X Y : Type 0} (f : X → Y) (xs : List X) → last_of (map f xs) ≡ option_map f (last_of xs)
-last-map f [] = refl
-last-map f (x ∷ xs) = ap Some (last-after f x xs)
 
 pub last-get : {X : Type 0} (xs : List X) → slice_get xs (length xs - 1) ≡ last_of xs
 last-get [] = refl

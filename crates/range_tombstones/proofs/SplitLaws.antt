@@ -133,7 +133,3 @@ split-put key ps qs xs i p a none same front back start dates is = subst (λ rs.
     more true y z e = refl
     more false true z e = refl
     more false false z e = e
-
--- one began there
-pub split-there : (key : Bytes) (ps : List Piece) → Ascends begins_before ps → is_start key ps ≡ true → IsSplit key ps ps
-split-there key ps a e = record { ascends = a; begun = e; others = λ k f. f; dates = λ k. refl }

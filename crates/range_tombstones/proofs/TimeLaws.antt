@@ -16,9 +16,6 @@ lt-upto_lt r s t p q = grind (arith, nat_tests)
 pub not-upto : (s t : Time) → not (time_le s t) ≡ time_lt t s
 not-upto s t = grind (arith, nat_tests)
 
-pub lt-upto_false : (s t : Time) → time_lt s t ≡ true → time_le t s ≡ false
-lt-upto_false s t p = grind (arith, nat_tests)
-
 pub lt-other : (s t : Time) → time_lt s t ≡ true → same_time s t ≡ false
 lt-other s t p = grind (arith, nat_tests)
 
@@ -36,9 +33,6 @@ upto-itself t = grind (arith, nat_tests)
 
 pub lt-itself : (t : Time) → time_lt t t ≡ false
 lt-itself t = grind (arith, nat_tests)
-
-pub upto-other : (s t : Time) → time_le s t ≡ true → same_time t s ≡ false → time_lt s t ≡ true
-upto-other s t p q = grind (arith, nat_tests)
 
 -- a time is earlier, the same or later
 pub one-of : (s t : Time) → (time_lt s t || (same_time s t || time_lt t s)) ≡ true

@@ -22,9 +22,6 @@ vec_cmp a b = slice_cmp nat_cmp a.items b.items
 abbrev pub HasSeen : List Kind → BTreeSet (Vec ℕ) → List Key → Type 0
 HasSeen kinds seen ks = (q : Vec ℕ) (k : Key) → IsKey kinds k → q.items ≡ row_key 0 kinds k → contains vec_cmp seen q ≡ list_any (λ x. is_eq (row_cmp kinds x k)) ks
 
-pub seen-none : (kinds : List Kind) (seen : BTreeSet (Vec ℕ)) → seen.keys ≡ [] → HasSeen kinds seen []
-seen-none kinds seen none q k is e = ap (λ (ks : List (Vec ℕ)). list_any (λ x. is_eq (vec_cmp q x)) ks) none
-
 pub seen-more : (kinds : List Kind) (old new : BTreeSet (Vec ℕ)) (b : Vec ℕ) (ks : List Key) (i : ℕ) (k : Key) → i < length ks → k ≡ get_or ks i k → IsKey kinds k → b.items ≡ row_key 0 kinds k
     → Updates vec_cmp old new b true → HasSeen kinds old (take i ks) → HasSeen kinds new (take (i + 1) ks)
 seen-more kinds old new b ks i k l at is bytes updates so_far q j isj e =

@@ -22,7 +22,7 @@ fn text_fits(s: &str)
     ensures text { is_utf8 s.now ≡ true }
 {}
 
-pub(crate) fn value_fits(x: &Datum)
+fn value_fits(x: &Datum)
     ensures value { IsValue x.now }
     ensures sized { IsSized x.now }
 {
@@ -44,15 +44,6 @@ pub(crate) fn values_fit(row: &Row)
 {
     for x in row.as_slice() {
         value_fits(x);
-    }
-}
-
-#[tactic(auto, using(crate::proofs::Lists::all_more, crate::proofs::Lists::all_end))]
-pub(crate) fn rows_fit(rows: &[Row])
-    ensures { AllByRecursion (AllByRecursion IsValue) rows.now }
-{
-    for row in rows {
-        values_fit(row);
     }
 }
 

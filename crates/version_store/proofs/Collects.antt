@@ -84,11 +84,3 @@ module _ (es : List Entry) (ts : List Threshold) (h : Tables) (id : ℕ) (g : Ti
 pub collect-changed : {R F : Type 0} (r : Result R F) (es new facts : List Entry) (ts news : List Threshold) (id : ℕ) (g was : Time) → was ≡ threshold_in ts id → time_le g was ≡ false → facts ≡ entries_of (image bytes_cmp g (facts_of (of_table id es))) ++ filter (stays id g) es → OnOk r ((new ≡ facts) × (news ≡ record { table = id; at = g } ∷ ts)) → OnOk r ((h : Tables) → Holds es ts h → Holds new news (raised id g h))
 collect-changed (Ok x) es new facts ts news id g was at later made changed = λ h all. subst₂ (λ (xs : List Entry) (us : List Threshold). Holds xs us (raised id g h)) (sym (changed.0 ∙ made)) (sym changed.1) (collected-held es ts h id g (subst (λ (t : Time). time_lt t g ≡ true) (at ∙ all.from id) (times.lt-not_le was g later)) all)
 collect-changed (Err x) es new facts ts news id g was at later made changed = tt
-
--- a time that isn't above the threshold raises nothing
-pub collect-same : (es : List Entry) (ts : List Threshold) (id : ℕ) (g was : Time) → was ≡ threshold_in ts id → time_le g was ≡ true → (h : Tables) → Holds es ts h → Holds es ts (raised id g h)
-collect-same es ts id g was at low h all = subst (λ (f : ℕ → Time). Holds es ts (record { facts = h.facts; threshold = f })) (λ j i. same i (i == id) refl j) all
-  where
-    same : (i : ℕ) (b : Bool) → (i == id) ≡ b → h.threshold i ≡ cond (b && time_lt (h.threshold i) g) g (h.threshold i)
-    same i true p = rw (times.le-lt_false (h.threshold i) g (subst (λ (t : Time). time_le g t ≡ true) (at ∙ (all.from id ∙ ap h.threshold (sym (id-same i id p)))) low))
-    same i false p = refl
