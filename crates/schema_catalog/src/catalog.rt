@@ -291,7 +291,7 @@ impl Catalog {
         Ok(ids)
     }
 
-    /// The same, and what a table that isn't refused is.
+    /// Refuses a new table by the first test that fails; what passes is a table that can be made.
     #[tactic(auto, using(crate::proofs::References::table_fits))]
     fn judged(
         &self,
@@ -351,8 +351,7 @@ impl Catalog {
         Ok(id)
     }
 
-    /// The first test that refuses a change, by the names as of t.
-    #[tactic(auto, unfolding(crate::specs::Catalogs::change_fault))]
+    /// The fault of a change to a name that belongs to a table at t already.
     fn name_fault(
         &self,
         d: &Descriptor,
