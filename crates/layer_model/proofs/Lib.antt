@@ -1,0 +1,4 @@
+pub mod FieldTexts
+pub mod NameLaws
+pub mod LayerLaws
+pub mod StandsLaws
