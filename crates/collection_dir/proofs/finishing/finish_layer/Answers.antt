@@ -1,0 +1,54 @@
+use Rattle.std.proofs.Common.{◌∙◌, inl}
+use Rattle.outside_world.proofs.Runs.{only_none, only_read, only_then}
+use Rattle.collection_dir.proofs.AfterRead.{kept_before, read_kept, read_then}
+use Rattle.collection_dir.proofs.OpenGate.{may_finish_of, still_shut, whole_already}
+use Rattle.collection_dir.proofs.finishing.finish_layer.Goals as goal
+
+pub returns-in_err-bytes-clause-layer : goal.returns-in_err-bytes-clause-layer
+returns-in_err-bytes-clause-layer g c w older may = (kept_before may.may (g.met.D.Disk.only_now c.args.disk.now)).so_far
+
+pub returns-in_err-is_finished-clause-layer : goal.returns-in_err-is_finished-clause-layer
+returns-in_err-is_finished-clause-layer g c w older may = read_kept may.may c.is_finished.ensures.reads (g.met.D.Disk.only_now c.args.disk.now)
+
+pub returns-then-branch-clause-layer : goal.returns-then-branch-clause-layer
+returns-then-branch-clause-layer g c w older may = read_kept may.may c.is_finished.ensures.reads (g.met.D.Disk.only_now c.args.disk.now)
+
+pub returns-then-branch-clause-whole : goal.returns-then-branch-clause-whole
+returns-then-branch-clause-whole g c w older may =
+    whole_already w older _ _ _ may c.is_finished.ensures.reads ((c.in_ok-is_finished.ensures.open may.may.known.tells).0 c.if-branch.true)
+
+pub returns-in_err-bytes-clause-changes : goal.returns-in_err-bytes-clause-changes
+returns-in_err-bytes-clause-changes g c = only_none _
+
+pub returns-in_err-is_finished-clause-changes : goal.returns-in_err-is_finished-clause-changes
+returns-in_err-is_finished-clause-changes g c = only_read c.is_finished.ensures.reads
+
+pub returns-then-branch-clause-changes : goal.returns-then-branch-clause-changes
+returns-then-branch-clause-changes g c = only_read c.is_finished.ensures.reads
+
+pub returns-in_err-open_gate-clause-changes : goal.returns-in_err-open_gate-clause-changes
+returns-in_err-open_gate-clause-changes g c = only_then (only_read c.is_finished.ensures.reads) c.open_gate.ensures.changes
+
+pub returns-clause-changes : goal.returns-clause-changes
+returns-clause-changes g c = only_then (only_read c.is_finished.ensures.reads) c.open_gate.ensures.changes
+
+pub returns-in_err-open_gate-clause-layer : goal.returns-in_err-open_gate-clause-layer
+returns-in_err-open_gate-clause-layer g c w older may =
+    let tells = may.may.known.tells in
+    let reads = c.is_finished.ensures.reads in
+    let shut = still_shut c.args.layer.now _ _ (c.in_ok-is_finished.ensures.open tells) c.if-branch.false (reads.content tells).objects in
+    read_then may.may reads (g.met.D.Disk.only_now c.args.disk.now) (c.open_gate.ensures.layer w older (may_finish_of w older _ _ _ _ _ may reads (c.deref-2.ensures.value ∙ c.in_ok-bytes.ensures)) shut)
+
+pub returns-clause-layer : goal.returns-clause-layer
+returns-clause-layer g c w older may =
+    let tells = may.may.known.tells in
+    let reads = c.is_finished.ensures.reads in
+    let shut = still_shut c.args.layer.now _ _ (c.in_ok-is_finished.ensures.open tells) c.if-branch.false (reads.content tells).objects in
+    read_then may.may reads (g.met.D.Disk.only_now c.args.disk.now) (c.open_gate.ensures.layer w older (may_finish_of w older _ _ _ _ _ may reads (c.deref-2.ensures.value ∙ c.in_ok-bytes.ensures)) shut)
+
+pub returns-clause-whole : goal.returns-clause-whole
+returns-clause-whole g c w older may image now =
+    let tells = may.may.known.tells in
+    let reads = c.is_finished.ensures.reads in
+    let shut = still_shut c.args.layer.now _ _ (c.in_ok-is_finished.ensures.open tells) c.if-branch.false (reads.content tells).objects in
+    inl (c.in_ok-open_gate.ensures.whole w older (may_finish_of w older _ _ _ _ _ may reads (c.deref-2.ensures.value ∙ c.in_ok-bytes.ensures)) shut image now)
