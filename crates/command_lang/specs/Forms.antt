@@ -4,9 +4,9 @@ use Rattle.mvcc_keys.specs.Times.{Time}
 use Rattle.row_codec.specs.declared.rows.Datum.{Datum}
 use Rattle.row_codec.specs.declared.rows.Kind.{Kind}
 use Rattle.script_grammar.specs.Grammar.{Form, ◌>>=◌, ◌>>◌, one, word, mark, ending, ◌making◌, ◌or◌}
-use Rattle.script_grammar.specs.Parts.{name, count_of, table, rows, asof, columns, key, references}
+use Rattle.script_grammar.specs.Parts.{name, new_name_of, count_of, kind_of, time_of, table, row, rows, asof, columns, key, references}
 use Rattle.command_lang.specs.declared.command.Command.{Command}
-use Rattle.command_lang.specs.declared.command.Command.TheVariants.{Cluster, Tick, CreateDatabase, CreateTable, Upsert, Select}
+use Rattle.command_lang.specs.declared.command.Command.TheVariants.{Cluster, Tick, CreateDatabase, CreateTable, AddColumn, DropColumn, RenameColumn, RenameTable, DropTable, Upsert, Delete, DeleteRange, Select, Gc}
 
 -- ---- the cluster
 
@@ -47,6 +47,63 @@ create_table = do
   mark 41
   ending (t, cs, ks, rs)
 
+-- DROP TABLE tbl
+unfoldable pub drop_table : Form (List ℕ × List ℕ)
+drop_table = do
+  word (codes "drop")
+  word (codes "table")
+  t ← table
+  ending t
+
+-- ---- changes of a table
+
+-- ALTER TABLE tbl ADD COLUMN name type, with a name that a column may get
+unfoldable pub add_column : Form ((List ℕ × List ℕ) × List ℕ × Kind)
+add_column = do
+  word (codes "alter")
+  word (codes "table")
+  t ← table
+  word (codes "add")
+  word (codes "column")
+  n ← one new_name_of
+  k ← one kind_of
+  ending (t, n, k)
+
+-- ALTER TABLE tbl DROP COLUMN name
+unfoldable pub drop_column : Form ((List ℕ × List ℕ) × List ℕ)
+drop_column = do
+  word (codes "alter")
+  word (codes "table")
+  t ← table
+  word (codes "drop")
+  word (codes "column")
+  n ← name
+  ending (t, n)
+
+-- ALTER TABLE tbl RENAME COLUMN name TO name, where the second is a name that a column may get
+unfoldable pub rename_column : Form ((List ℕ × List ℕ) × List ℕ × List ℕ)
+rename_column = do
+  word (codes "alter")
+  word (codes "table")
+  t ← table
+  word (codes "rename")
+  word (codes "column")
+  n ← name
+  word (codes "to")
+  m ← one new_name_of
+  ending (t, n, m)
+
+-- ALTER TABLE tbl RENAME TO name
+unfoldable pub rename_table : Form ((List ℕ × List ℕ) × List ℕ)
+rename_table = do
+  word (codes "alter")
+  word (codes "table")
+  t ← table
+  word (codes "rename")
+  word (codes "to")
+  n ← name
+  ending (t, n)
+
 -- ---- rows
 
 -- UPSERT INTO tbl VALUES row {, row}
@@ -59,6 +116,29 @@ upsert = do
   rs ← rows
   ending (t, rs)
 
+-- DELETE FROM tbl KEY row {, row}
+unfoldable pub delete : Form ((List ℕ × List ℕ) × List (List Datum))
+delete = do
+  word (codes "delete")
+  word (codes "from")
+  t ← table
+  word (codes "key")
+  ks ← rows
+  ending (t, ks)
+
+-- DELETE RANGE FROM tbl BETWEEN row AND row
+unfoldable pub delete_range : Form ((List ℕ × List ℕ) × List Datum × List Datum)
+delete_range = do
+  word (codes "delete")
+  word (codes "range")
+  word (codes "from")
+  t ← table
+  word (codes "between")
+  lo ← row
+  word (codes "and")
+  hi ← row
+  ending (t, lo, hi)
+
 -- SELECT * FROM tbl [AS OF SYSTEM TIME time]
 unfoldable pub select : Form ((List ℕ × List ℕ) × Option Time)
 select = do
@@ -69,15 +149,36 @@ select = do
   at ← asof
   ending (t, at)
 
+-- GC tbl BEFORE time
+unfoldable pub gc : Form ((List ℕ × List ℕ) × Time)
+gc = do
+  word (codes "gc")
+  t ← table
+  word (codes "before")
+  before ← one time_of
+  ending (t, before)
+
 -- ---- families of commands
 
 unfoldable pub schema_command : Form Command
-schema_command = create_database making CreateDatabase or create_table making (λ x. CreateTable x.0 x.1 x.2 x.3)
+schema_command = create_database making CreateDatabase or create_table making (λ x. CreateTable x.0 x.1 x.2 x.3) or drop_table making DropTable
+
+unfoldable pub alter_command : Form Command
+alter_command =
+    add_column making (λ x. AddColumn x.0 x.1 x.2)
+    or drop_column making (λ x. DropColumn x.0 x.1)
+    or rename_column making (λ x. RenameColumn x.0 x.1 x.2)
+    or rename_table making (λ x. RenameTable x.0 x.1)
 
 unfoldable pub row_command : Form Command
-row_command = upsert making (λ x. Upsert x.0 x.1) or select making (λ x. Select x.0 x.1)
+row_command =
+    upsert making (λ x. Upsert x.0 x.1)
+    or delete making (λ x. Delete x.0 x.1)
+    or delete_range making (λ x. DeleteRange x.0 x.1 x.2)
+    or select making (λ x. Select x.0 x.1)
+    or gc making (λ x. Gc x.0 x.1)
 
 -- the first command names the cluster, and no other does
 unfoldable pub command : Bool → Form Command
 command true = cluster making Cluster
-command false = tick making Tick or schema_command or row_command
+command false = tick making Tick or schema_command or alter_command or row_command

@@ -25,12 +25,46 @@ pub enum Command {
         key: KeyNames,
         references: Items<Tbl>,
     },
+    AddColumn {
+        table: Tbl,
+        name: Name,
+        kind: Kind,
+    },
+    DropColumn {
+        table: Tbl,
+        name: Name,
+    },
+    RenameColumn {
+        table: Tbl,
+        name: Name,
+        to: Name,
+    },
+    RenameTable {
+        table: Tbl,
+        to: Name,
+    },
+    DropTable {
+        table: Tbl,
+    },
     Upsert {
         table: Tbl,
         rows: Items<Row>,
     },
+    Delete {
+        table: Tbl,
+        keys: Items<Row>,
+    },
+    DeleteRange {
+        table: Tbl,
+        lo: Row,
+        hi: Row,
+    },
     Select {
         table: Tbl,
         at: Option<Hlc>,
+    },
+    Gc {
+        table: Tbl,
+        before: Hlc,
     },
 }

@@ -1,15 +1,15 @@
 //! The forms of commands, and the commands that they make.
 ghost use Rattle.std.specs.Prelude.{◌≡◌, []};
 ghost use Rattle.script_grammar.specs.Grammar.{Gives, ◌making◌};
-ghost use Rattle.command_lang.specs.declared.command.Command.TheVariants.{Cluster, Tick, CreateDatabase, CreateTable, Upsert, Select};
-ghost use Rattle.command_lang.specs.Forms.{cluster, tick, create_database, create_table, upsert, select, schema_command, row_command, command};
+ghost use Rattle.command_lang.specs.declared.command.Command.TheVariants.{Cluster, Tick, CreateDatabase, CreateTable, AddColumn, DropColumn, RenameColumn, RenameTable, DropTable, Upsert, Delete, DeleteRange, Select, Gc};
+ghost use Rattle.command_lang.specs.Forms.{cluster, tick, create_database, create_table, drop_table, add_column, drop_column, rename_column, rename_table, upsert, delete, delete_range, select, gc, schema_command, alter_command, row_command, command};
 
 use crate::{Command, Tbl};
 use mvcc_keys::{Hlc, Items};
 use row_codec::{Kind, Row};
 use script_grammar::{
-    Broken, Token, asof, columns, count, ending, farthest, key, mark, name, references, rows,
-    table, word,
+    Broken, Token, asof, columns, count, ending, farthest, key, kind, mark, name, new_name,
+    references, row, rows, table, time, word,
 };
 use std::alloc::Global;
 use table_descriptors::{KeyNames, Name};
@@ -60,6 +60,71 @@ fn create_table(alloc: Global, tokens: &[Token]) -> Result<NewTable, Broken>
     ending((table, columns, key, references), rest)
 }
 
+#[tactic(auto, unfolding(crate::specs::Forms::drop_table))]
+fn drop_table(alloc: Global, tokens: &[Token]) -> Result<Tbl, Broken>
+    ensures { Gives (λ x. x) (λ x. []) result (drop_table.read tokens.now) }
+{
+    let rest = word(b"drop", tokens)?;
+    let rest = word(b"table", rest)?;
+    let (table, rest) = table(alloc, rest)?;
+    ending(table, rest)
+}
+
+#[tactic(auto, unfolding(crate::specs::Forms::add_column))]
+fn add_column(alloc: Global, tokens: &[Token]) -> Result<(Tbl, Name, Kind), Broken>
+    ensures { Gives (λ x. x) (λ x. []) result (add_column.read tokens.now) }
+{
+    let rest = word(b"alter", tokens)?;
+    let rest = word(b"table", rest)?;
+    let (table, rest) = table(alloc, rest)?;
+    let rest = word(b"add", rest)?;
+    let rest = word(b"column", rest)?;
+    let (name, rest) = new_name(alloc, rest)?;
+    let (kind, rest) = kind(rest)?;
+    ending((table, name, kind), rest)
+}
+
+#[tactic(auto, unfolding(crate::specs::Forms::drop_column))]
+fn drop_column(alloc: Global, tokens: &[Token]) -> Result<(Tbl, Name), Broken>
+    ensures { Gives (λ x. x) (λ x. []) result (drop_column.read tokens.now) }
+{
+    let rest = word(b"alter", tokens)?;
+    let rest = word(b"table", rest)?;
+    let (table, rest) = table(alloc, rest)?;
+    let rest = word(b"drop", rest)?;
+    let rest = word(b"column", rest)?;
+    let (name, rest) = name(alloc, rest)?;
+    ending((table, name), rest)
+}
+
+#[tactic(auto, unfolding(crate::specs::Forms::rename_column))]
+fn rename_column(alloc: Global, tokens: &[Token]) -> Result<(Tbl, Name, Name), Broken>
+    ensures { Gives (λ x. x) (λ x. []) result (rename_column.read tokens.now) }
+{
+    let rest = word(b"alter", tokens)?;
+    let rest = word(b"table", rest)?;
+    let (table, rest) = table(alloc, rest)?;
+    let rest = word(b"rename", rest)?;
+    let rest = word(b"column", rest)?;
+    let (name, rest) = name(alloc, rest)?;
+    let rest = word(b"to", rest)?;
+    let (to, rest) = new_name(alloc, rest)?;
+    ending((table, name, to), rest)
+}
+
+#[tactic(auto, unfolding(crate::specs::Forms::rename_table))]
+fn rename_table(alloc: Global, tokens: &[Token]) -> Result<(Tbl, Name), Broken>
+    ensures { Gives (λ x. x) (λ x. []) result (rename_table.read tokens.now) }
+{
+    let rest = word(b"alter", tokens)?;
+    let rest = word(b"table", rest)?;
+    let (table, rest) = table(alloc, rest)?;
+    let rest = word(b"rename", rest)?;
+    let rest = word(b"to", rest)?;
+    let (to, rest) = name(alloc, rest)?;
+    ending((table, to), rest)
+}
+
 #[tactic(auto, unfolding(crate::specs::Forms::upsert))]
 fn upsert(alloc: Global, tokens: &[Token]) -> Result<(Tbl, Items<Row>), Broken>
     ensures { Gives (λ x. x) (λ x. []) result (upsert.read tokens.now) }
@@ -72,6 +137,33 @@ fn upsert(alloc: Global, tokens: &[Token]) -> Result<(Tbl, Items<Row>), Broken>
     ending((table, rows), rest)
 }
 
+#[tactic(auto, unfolding(crate::specs::Forms::delete))]
+fn delete(alloc: Global, tokens: &[Token]) -> Result<(Tbl, Items<Row>), Broken>
+    ensures { Gives (λ x. x) (λ x. []) result (delete.read tokens.now) }
+{
+    let rest = word(b"delete", tokens)?;
+    let rest = word(b"from", rest)?;
+    let (table, rest) = table(alloc, rest)?;
+    let rest = word(b"key", rest)?;
+    let (keys, rest) = rows(alloc, rest)?;
+    ending((table, keys), rest)
+}
+
+#[tactic(auto, unfolding(crate::specs::Forms::delete_range))]
+fn delete_range(alloc: Global, tokens: &[Token]) -> Result<(Tbl, Row, Row), Broken>
+    ensures { Gives (λ x. x) (λ x. []) result (delete_range.read tokens.now) }
+{
+    let rest = word(b"delete", tokens)?;
+    let rest = word(b"range", rest)?;
+    let rest = word(b"from", rest)?;
+    let (table, rest) = table(alloc, rest)?;
+    let rest = word(b"between", rest)?;
+    let (lo, rest) = row(alloc, rest)?;
+    let rest = word(b"and", rest)?;
+    let (hi, rest) = row(alloc, rest)?;
+    ending((table, lo, hi), rest)
+}
+
 #[tactic(auto, unfolding(crate::specs::Forms::select))]
 fn select(alloc: Global, tokens: &[Token]) -> Result<(Tbl, Option<Hlc>), Broken>
     ensures { Gives (λ x. x) (λ x. []) result (select.read tokens.now) }
@@ -82,6 +174,19 @@ fn select(alloc: Global, tokens: &[Token]) -> Result<(Tbl, Option<Hlc>), Broken>
     let (table, rest) = table(alloc, rest)?;
     match asof(rest) {
         Ok((at, rest)) => ending((table, at), rest),
+        Err(broken) => Err(broken),
+    }
+}
+
+#[tactic(auto, unfolding(crate::specs::Forms::gc))]
+fn gc(alloc: Global, tokens: &[Token]) -> Result<(Tbl, Hlc), Broken>
+    ensures { Gives (λ x. x) (λ x. []) result (gc.read tokens.now) }
+{
+    let rest = word(b"gc", tokens)?;
+    let (table, rest) = table(alloc, rest)?;
+    let rest = word(b"before", rest)?;
+    match time(rest) {
+        Ok((before, rest)) => ending((table, before), rest),
         Err(broken) => Err(broken),
     }
 }
@@ -119,11 +224,60 @@ fn create_table_command(alloc: Global, tokens: &[Token]) -> Result<Command, Brok
     })
 }
 
+fn drop_table_command(alloc: Global, tokens: &[Token]) -> Result<Command, Broken>
+    ensures { Gives (λ x. x) (λ x. []) result ((drop_table making DropTable).read tokens.now) }
+{
+    let table = drop_table(alloc, tokens)?;
+    Ok(Command::DropTable { table })
+}
+
+fn add_column_command(alloc: Global, tokens: &[Token]) -> Result<Command, Broken>
+    ensures { Gives (λ x. x) (λ x. []) result ((add_column making (λ x. AddColumn x.0 x.1 x.2)).read tokens.now) }
+{
+    let (table, name, kind) = add_column(alloc, tokens)?;
+    Ok(Command::AddColumn { table, name, kind })
+}
+
+fn drop_column_command(alloc: Global, tokens: &[Token]) -> Result<Command, Broken>
+    ensures { Gives (λ x. x) (λ x. []) result ((drop_column making (λ x. DropColumn x.0 x.1)).read tokens.now) }
+{
+    let (table, name) = drop_column(alloc, tokens)?;
+    Ok(Command::DropColumn { table, name })
+}
+
+fn rename_column_command(alloc: Global, tokens: &[Token]) -> Result<Command, Broken>
+    ensures { Gives (λ x. x) (λ x. []) result ((rename_column making (λ x. RenameColumn x.0 x.1 x.2)).read tokens.now) }
+{
+    let (table, name, to) = rename_column(alloc, tokens)?;
+    Ok(Command::RenameColumn { table, name, to })
+}
+
+fn rename_table_command(alloc: Global, tokens: &[Token]) -> Result<Command, Broken>
+    ensures { Gives (λ x. x) (λ x. []) result ((rename_table making (λ x. RenameTable x.0 x.1)).read tokens.now) }
+{
+    let (table, to) = rename_table(alloc, tokens)?;
+    Ok(Command::RenameTable { table, to })
+}
+
 fn upsert_command(alloc: Global, tokens: &[Token]) -> Result<Command, Broken>
     ensures { Gives (λ x. x) (λ x. []) result ((upsert making (λ x. Upsert x.0 x.1)).read tokens.now) }
 {
     let (table, rows) = upsert(alloc, tokens)?;
     Ok(Command::Upsert { table, rows })
+}
+
+fn delete_command(alloc: Global, tokens: &[Token]) -> Result<Command, Broken>
+    ensures { Gives (λ x. x) (λ x. []) result ((delete making (λ x. Delete x.0 x.1)).read tokens.now) }
+{
+    let (table, keys) = delete(alloc, tokens)?;
+    Ok(Command::Delete { table, keys })
+}
+
+fn delete_range_command(alloc: Global, tokens: &[Token]) -> Result<Command, Broken>
+    ensures { Gives (λ x. x) (λ x. []) result ((delete_range making (λ x. DeleteRange x.0 x.1 x.2)).read tokens.now) }
+{
+    let (table, lo, hi) = delete_range(alloc, tokens)?;
+    Ok(Command::DeleteRange { table, lo, hi })
 }
 
 fn select_command(alloc: Global, tokens: &[Token]) -> Result<Command, Broken>
@@ -133,21 +287,44 @@ fn select_command(alloc: Global, tokens: &[Token]) -> Result<Command, Broken>
     Ok(Command::Select { table, at })
 }
 
+fn gc_command(alloc: Global, tokens: &[Token]) -> Result<Command, Broken>
+    ensures { Gives (λ x. x) (λ x. []) result ((gc making (λ x. Gc x.0 x.1)).read tokens.now) }
+{
+    let (table, before) = gc(alloc, tokens)?;
+    Ok(Command::Gc { table, before })
+}
+
 #[tactic(auto, unfolding(crate::specs::Forms::schema_command))]
 fn schema_command(alloc: Global, tokens: &[Token]) -> Result<Command, Broken>
     ensures { Gives (λ x. x) (λ x. []) result (schema_command.read tokens.now) }
 {
-    farthest(
+    let found = farthest(
         create_database_command(alloc, tokens),
         create_table_command(alloc, tokens),
-    )
+    );
+    farthest(found, drop_table_command(alloc, tokens))
+}
+
+#[tactic(auto, unfolding(crate::specs::Forms::alter_command))]
+fn alter_command(alloc: Global, tokens: &[Token]) -> Result<Command, Broken>
+    ensures { Gives (λ x. x) (λ x. []) result (alter_command.read tokens.now) }
+{
+    let found = farthest(
+        add_column_command(alloc, tokens),
+        drop_column_command(alloc, tokens),
+    );
+    let found = farthest(found, rename_column_command(alloc, tokens));
+    farthest(found, rename_table_command(alloc, tokens))
 }
 
 #[tactic(auto, unfolding(crate::specs::Forms::row_command))]
 fn row_command(alloc: Global, tokens: &[Token]) -> Result<Command, Broken>
     ensures { Gives (λ x. x) (λ x. []) result (row_command.read tokens.now) }
 {
-    farthest(upsert_command(alloc, tokens), select_command(alloc, tokens))
+    let found = farthest(upsert_command(alloc, tokens), delete_command(alloc, tokens));
+    let found = farthest(found, delete_range_command(alloc, tokens));
+    let found = farthest(found, select_command(alloc, tokens));
+    farthest(found, gc_command(alloc, tokens))
 }
 
 /// The command of a line. The first of a script names the cluster, and no other does.
@@ -159,5 +336,6 @@ pub(crate) fn command(alloc: Global, first: bool, tokens: &[Token]) -> Result<Co
         return cluster_command(alloc, tokens);
     }
     let found = farthest(tick_command(tokens), schema_command(alloc, tokens));
+    let found = farthest(found, alter_command(alloc, tokens));
     farthest(found, row_command(alloc, tokens))
 }

@@ -6,9 +6,9 @@ use Rattle.mvcc_keys.specs.TimeTexts.{time_text}
 use Rattle.row_codec.specs.declared.rows.Datum.{Datum}
 use Rattle.row_codec.specs.declared.rows.Datum.TheVariants.{Int, Text, Bytes, Bool as Truth, Null}
 use Rattle.reply_texts.specs.declared.refusals.Refusal.{Refusal}
-use Rattle.reply_texts.specs.declared.refusals.Refusal.TheVariants.{ClockFull, TickBack, NoSuchDatabase, DatabaseExists, NoSuchTable, NameTaken, BadSchema, WrongRow, Future, DuplicateKey, TooManyTables, TooManyEvents, NotBuilt}
+use Rattle.reply_texts.specs.declared.refusals.Refusal.TheVariants.{ClockFull, TickBack, NoSuchDatabase, DatabaseExists, NoSuchTable, NameTaken, NotPublic, BadSchema, WrongRow, TooLarge, Future, Collected, Referenced, DuplicateKey, TooManyTables, TooManyEvents, EmptyRange}
 use Rattle.reply_texts.specs.declared.answers.Answer.{Answer}
-use Rattle.reply_texts.specs.declared.answers.Answer.TheVariants.{Nothing, Plain, ClockSet, TableMade, RowsWritten, RowsShown}
+use Rattle.reply_texts.specs.declared.answers.Answer.TheVariants.{Nothing, Plain, ClockSet, TableMade, TableChanged, RowsWritten, RangeDeleted, ThresholdRaised, RowsShown}
 use Rattle.reply_texts.specs.declared.replies.Response.{Response}
 use Rattle.reply_texts.specs.declared.replies.Response.TheVariants.{Refused, Answered}
 
@@ -20,13 +20,17 @@ refusal_text (NoSuchDatabase database) = codes "refused 3 NoSuchDatabase databas
 refusal_text (DatabaseExists database) = codes "refused 4 DatabaseExists database=" ++ (database ++ codes "\n")
 refusal_text (NoSuchTable table) = codes "refused 5 NoSuchTable table=" ++ (table.0 ++ (codes "." ++ (table.1 ++ codes "\n")))
 refusal_text (NameTaken table) = codes "refused 6 NameTaken table=" ++ (table.0 ++ (codes "." ++ (table.1 ++ codes "\n")))
+refusal_text (NotPublic table) = codes "refused 7 NotPublic table=" ++ (table.0 ++ (codes "." ++ (table.1 ++ codes "\n")))
 refusal_text (BadSchema which) = codes "refused 8 BadSchema which=" ++ (decimal which ++ codes "\n")
 refusal_text (WrongRow row column) = codes "refused 9 WrongRow row=" ++ (decimal row ++ (codes " column=" ++ (decimal column ++ codes "\n")))
+refusal_text (TooLarge row) = codes "refused 10 TooLarge row=" ++ (decimal row ++ codes "\n")
 refusal_text (Future now) = codes "refused 11 Future now=" ++ (time_text now ++ codes "\n")
+refusal_text (Collected table threshold) = codes "refused 12 Collected table=" ++ (decimal table ++ (codes " threshold=" ++ (time_text threshold ++ codes "\n")))
+refusal_text (Referenced by) = codes "refused 14 Referenced by=" ++ (decimal by ++ codes "\n")
 refusal_text (DuplicateKey row) = codes "refused 15 DuplicateKey row=" ++ (decimal row ++ codes "\n")
 refusal_text TooManyTables = codes "refused 35 TooManyTables\n"
 refusal_text TooManyEvents = codes "refused 36 TooManyEvents\n"
-refusal_text NotBuilt = codes "refused 39 NotBuilt\n"
+refusal_text EmptyRange = codes "refused 38 EmptyRange\n"
 
 -- ---- rows
 
@@ -72,7 +76,10 @@ first_line Nothing = []
 first_line Plain = codes "ok\n"
 first_line (ClockSet now) = codes "ok now=" ++ (time_text now ++ codes "\n")
 first_line (TableMade table at) = codes "ok table=" ++ (decimal table ++ (codes " at=" ++ (time_text at ++ codes "\n")))
+first_line (TableChanged table version at) = codes "ok table=" ++ (decimal table ++ (codes " version=" ++ (decimal version ++ (codes " at=" ++ (time_text at ++ codes "\n")))))
 first_line (RowsWritten rows at) = codes "ok rows=" ++ (decimal rows ++ (codes " at=" ++ (time_text at ++ codes "\n")))
+first_line (RangeDeleted at) = codes "ok at=" ++ (time_text at ++ codes "\n")
+first_line (ThresholdRaised threshold) = codes "ok threshold=" ++ (time_text threshold ++ codes "\n")
 first_line (RowsShown rows) = codes "ok rows=" ++ (decimal (length rows) ++ codes "\n")
 
 abbrev pub rows_of : Answer → List (List Datum)

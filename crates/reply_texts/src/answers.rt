@@ -15,7 +15,10 @@ pub enum Answer {
     Plain,
     ClockSet { now: Hlc },
     TableMade { table: u32, at: Hlc },
+    TableChanged { table: u32, version: u32, at: Hlc },
     RowsWritten { rows: usize, at: Hlc },
+    RangeDeleted { at: Hlc },
+    ThresholdRaised { threshold: Hlc },
     RowsShown { rows: Items<Row> },
 }
 
@@ -28,7 +31,12 @@ fn first_line(alloc: Global, answer: &Answer) -> Result<String, AllocError>
         Answer::Plain => format!(in alloc; "ok\n"),
         Answer::ClockSet { now } => format!(in alloc; "ok now={now}\n"),
         Answer::TableMade { table, at } => format!(in alloc; "ok table={table} at={at}\n"),
+        Answer::TableChanged { table, version, at } => {
+            format!(in alloc; "ok table={table} version={version} at={at}\n")
+        }
         Answer::RowsWritten { rows, at } => format!(in alloc; "ok rows={rows} at={at}\n"),
+        Answer::RangeDeleted { at } => format!(in alloc; "ok at={at}\n"),
+        Answer::ThresholdRaised { threshold } => { format!(in alloc; "ok threshold={threshold}\n") }
         Answer::RowsShown { rows } => {
             let count = rows.as_slice().len();
             format!(in alloc; "ok rows={count}\n")

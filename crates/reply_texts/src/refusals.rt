@@ -16,17 +16,25 @@ pub enum Refusal {
     DatabaseExists { database: Name },
     NoSuchTable { table: (Name, Name) },
     NameTaken { table: (Name, Name) },
+    /// The table is Offline.
+    NotPublic { table: (Name, Name) },
     /// The least number of a rule that the new table breaks.
     BadSchema { which: u8 },
     /// Row and place of the first value that doesn't fit, from 1; column 0: a wrong count of values.
     WrongRow { row: usize, column: usize },
+    /// The first row, from 1, whose key or value takes more bytes than it may.
+    TooLarge { row: usize },
     Future { now: Hlc },
+    /// The time is before the threshold of the table of this id.
+    Collected { table: u32, threshold: Hlc },
+    /// The least id of another table that references the one to be dropped.
+    Referenced { by: u32 },
     /// The row, from 1, whose key came earlier in the list.
     DuplicateKey { row: usize },
     TooManyTables,
     TooManyEvents,
-    /// What isn't built yet: a row with more than 1,024 bytes of texts and bytes.
-    NotBuilt,
+    /// The first key of a range isn't before the second.
+    EmptyRange,
 }
 
 fn refusal_line(alloc: Global, refusal: &Refusal) -> Result<String, AllocError>
@@ -47,15 +55,23 @@ fn refusal_line(alloc: Global, refusal: &Refusal) -> Result<String, AllocError>
         Refusal::NameTaken {
             table: (database, name),
         } => { format!(in alloc; "refused 6 NameTaken table={database}.{name}\n") }
+        Refusal::NotPublic {
+            table: (database, name),
+        } => { format!(in alloc; "refused 7 NotPublic table={database}.{name}\n") }
         Refusal::BadSchema { which } => format!(in alloc; "refused 8 BadSchema which={which}\n"),
         Refusal::WrongRow { row, column } => {
             format!(in alloc; "refused 9 WrongRow row={row} column={column}\n")
         }
+        Refusal::TooLarge { row } => format!(in alloc; "refused 10 TooLarge row={row}\n"),
         Refusal::Future { now } => format!(in alloc; "refused 11 Future now={now}\n"),
+        Refusal::Collected { table, threshold } => {
+            format!(in alloc; "refused 12 Collected table={table} threshold={threshold}\n")
+        }
+        Refusal::Referenced { by } => format!(in alloc; "refused 14 Referenced by={by}\n"),
         Refusal::DuplicateKey { row } => format!(in alloc; "refused 15 DuplicateKey row={row}\n"),
         Refusal::TooManyTables => format!(in alloc; "refused 35 TooManyTables\n"),
         Refusal::TooManyEvents => format!(in alloc; "refused 36 TooManyEvents\n"),
-        Refusal::NotBuilt => format!(in alloc; "refused 39 NotBuilt\n"),
+        Refusal::EmptyRange => format!(in alloc; "refused 38 EmptyRange\n"),
     }
 }
 
