@@ -1,11 +1,11 @@
 -- What one byte does to the lines that are still to come.
-use Rattle.std.proofs.Common.{◌≡◌, ◌≢◌, ℕ, zero, suc, ◌+◌, ◌<◌, ◌≤◌, Bool, true, false, ◌||◌, cond, eqb, ltb, List, [], ◌∷◌, ◌++◌, length, take, drop, get_or, Some, None, refl, sym, ap, ◌∙◌, arith, append_assoc, length-append}
+use Rattle.std.proofs.Common.{◌≡◌, ℕ, suc, ◌+◌, ◌<◌, ◌≤◌, Bool, true, false, ◌||◌, eqb, ltb, List, [], ◌∷◌, ◌++◌, length, refl, ap, ◌∙◌, arith, length-append}
 use Rattle.std.specs.Prelude.{Option, is_none}
 use Rattle.std.proofs.lemmas.Bool.Decides.{nat_tests}
 use Rattle.std.proofs.lemmas.List.{append-nil, nil_from_length}
 use Rattle.std.proofs.Math.Nat.{min-eq_left, min-eq_right}
 use Rattle.machine_model.specs.Machine.{World, Machine}
-use Rattle.machine_model.specs.Script.{Line, Within, Beyond, put_front, lines, Outcome, outcome, malformed_at, column_beyond, read_at}
+use Rattle.machine_model.specs.Script.{Line, Within, Beyond, put_front, lines, outcome, malformed_at, column_beyond}
 use Rattle.command_lang.specs.Lines.{reading, Malformed}
 use Rattle.backup_run.specs.Run.{At, put_all, with_refused, outcome_of_lines, outcome_of_rest}
 

@@ -1,17 +1,17 @@
 -- A run between two reads, and at its end.
-use Rattle.std.proofs.Common.{◌≡◌, ◌≢◌, ◌⊎◌, inl, inr, ℕ, ◌+◌, ◌-◌, ◌^◌, ◌<◌, ◌≤◌, Bool, true, false, List, [], ◌∷◌, ◌++◌, length, take, Some, None, refl, sym, ap, subst, ◌∙◌, arith, append_assoc}
+use Rattle.std.proofs.Common.{◌≡◌, inl, inr, ℕ, ◌-◌, ◌^◌, ◌<◌, List, [], ◌++◌, Some, None, refl, sym, ap, subst, ◌∙◌, arith, append_assoc}
 use Rattle.std.specs.Prelude.{Option}
 use Rattle.std.proofs.lemmas.List.{append-nil}
 use Rattle.outside_world.specs.Told.{told_before, before_told, AtEnd}
 use Rattle.outside_world.specs.Causes.{Rose}
 use Rattle.machine_model.specs.Machine.{World}
-use Rattle.machine_model.specs.Script.{Outcome, outcome, lines, script_outcome, whole_lines}
+use Rattle.machine_model.specs.Script.{Outcome, outcome, lines, script_outcome}
 use Rattle.backup_run.specs.declared.stops.Stop.{Stop}
 use Rattle.backup_run.specs.declared.stops.Stop.TheVariants.{Malformed, WriteFault, Memory}
 use Rattle.backup_run.specs.declared.stops.Ending.{Ending}
 use Rattle.backup_run.specs.declared.stops.Ending.TheVariants.{AllDone, SomeRefused, IllFormed, ReadFault, Unwritten, NoMemory}
-use Rattle.backup_run.specs.Endings.{Begins, EndsBy, IsLast, IsWhole, Answers, AnswersAtEnd, Headline, RunsScript, ending_of, code_of, CodeCause, RunCause, Completes}
-use Rattle.backup_run.specs.Run.{At, start, StandsAt, Fed, EndedIn, Running, AtInputEnd, Ran, written_before, ended_at, outcome_of_rest, outcome_of_lines}
+use Rattle.backup_run.specs.Endings.{EndsBy, Answers, AnswersAtEnd, Headline, RunsScript, ending_of, code_of, CodeCause, RunCause, Completes}
+use Rattle.backup_run.specs.Run.{Here, at_of, at_first, SessionAt, StandsAt, Fed, EndedIn, Running, AtInputEnd, Ran, written_before, outcome_of_rest, outcome_of_lines}
 use Rattle.backup_run.proofs.Steps.{begins_written, begins_more, fed_nothing, fed_fed, fed_ended}
 use Rattle.backup_run.proofs.Telling.{told_twice}
 
@@ -32,11 +32,11 @@ only_end (Some x) more end e = let same : x ≡ more = cc in sym same ∙ end
 
 -- ---- between two reads
 
-pub running_first : (left held : Option (List ℕ)) (at : At) → Running left left held held at at
+pub running_first : (left held : Option (List ℕ)) (at : Here) → Running left left held held at at
 running_first left held at = record { read = []; source = told_no left; fed = fed_nothing held at }
 
 -- a piece was read and fed
-pub running_next : (l0 l1 l2 h0 h1 h2 : Option (List ℕ)) (a b c : At) (piece : List ℕ)
+pub running_next : (l0 l1 l2 h0 h1 h2 : Option (List ℕ)) (a b c : Here) (piece : List ℕ)
     → Running l0 l1 h0 h1 a b → l1 ≡ before_told piece l2 → Fed h1 h2 b c piece → Running l0 l2 h0 h2 a c
 running_next l0 l1 l2 h0 h1 h2 a b c piece r is t = record {
   read = r.read ++ piece;
@@ -45,19 +45,19 @@ running_next l0 l1 l2 h0 h1 h2 a b c piece r is t = record {
 }
 
 -- the start, with no bytes read and nothing written, moved to where the bytes of a run are
-moved : (whole rest : List ℕ → Outcome) (read text : List ℕ) → StandsAt whole rest ([] ++ read) ([] ++ text) → StandsAt whole rest read text
-moved whole rest read text s = s
+moved : (worlds : List World) (h : Here) (whole : List ℕ → Outcome) (read text : List ℕ) → SessionAt worlds h whole ([] ++ read) ([] ++ text) → SessionAt worlds h whole read text
+moved worlds h whole read text s = s
 
 -- a read failed
-pub ran_unread : (l0 l1 l2 h0 h1 : Option (List ℕ)) (a b : At) → Running l0 l1 h0 h1 a b → l2 ≡ l1 → Ran l0 l2 h0 h1 a ReadFault
+pub ran_unread : (l0 l1 l2 h0 h1 : Option (List ℕ)) (a b : Here) → Running l0 l1 h0 h1 a b → l2 ≡ l1 → Ran l0 l2 h0 h1 a ReadFault
 ran_unread l0 l1 l2 h0 h1 a b r is = record {
   read = r.read;
   written = r.fed.text;
   source = r.source ∙ ap (λ o. before_told r.read o) (sym is);
   sink = r.fed.wrote;
   answers = λ worlds whole s.
-      let at = moved whole (outcome_of_rest worlds b) r.read r.fed.text (r.fed.stands worlds whole [] [] s) in
-      (at.answers, λ more. begins_written r.fed.text (whole (r.read ++ more)) (outcome_of_rest worlds b more) (at.goes_on more));
+      let now = moved worlds b whole r.read r.fed.text (r.fed.stands worlds whole [] [] s) in
+      (now.at.answers, λ more. begins_written r.fed.text (whole (r.read ++ more)) (outcome_of_rest worlds (at_of b now.machine) more) (now.at.goes_on more));
 }
 
 answers_stopped : (stop : Stop) (whole : List ℕ → Outcome) (left : Option (List ℕ)) (read text : List ℕ) → ((more : List ℕ) → EndsBy stop text (whole (read ++ more))) → Answers (ending_of stop) whole left read text
@@ -66,7 +66,7 @@ answers_stopped WriteFault whole left read text h = λ more _. h more
 answers_stopped Memory whole left read text h = λ more _. h more
 
 -- a piece was read, and the run ended in it
-pub ran_stopped : (l0 l1 l2 h0 h1 h2 : Option (List ℕ)) (a b : At) (piece : List ℕ) (stop : Stop)
+pub ran_stopped : (l0 l1 l2 h0 h1 h2 : Option (List ℕ)) (a b : Here) (piece : List ℕ) (stop : Stop)
     → Running l0 l1 h0 h1 a b → l1 ≡ before_told piece l2 → EndedIn h1 h2 b piece stop → Ran l0 l2 h0 h2 a (ending_of stop)
 ran_stopped l0 l1 l2 h0 h1 h2 a b piece stop r is t =
     let w = fed_ended h0 h1 h2 a b r.read piece stop r.fed t in
@@ -91,7 +91,7 @@ answers_end NoMemory whole left read front text o end is h = λ more e.
     rw (only_end left more end e) (begins_more front text (whole (read ++ [])).text o.text h (ap (λ (x : Outcome). x.text) is))
 
 -- the input was at its end
-pub ran_ended : (l0 l1 l2 h0 h1 h2 : Option (List ℕ)) (a b : At) (nothing : List ℕ) (ending : Ending)
+pub ran_ended : (l0 l1 l2 h0 h1 h2 : Option (List ℕ)) (a b : Here) (nothing : List ℕ) (ending : Ending)
     → Running l0 l1 h0 h1 a b → l1 ≡ before_told nothing l2 → nothing ≡ [] → AtEnd l2 → AtInputEnd h1 h2 b ending → Ran l0 l2 h0 h2 a ending
 ran_ended l0 l1 l2 h0 h1 h2 a b nothing ending r is none end e = record {
   read = r.read;
@@ -99,23 +99,27 @@ ran_ended l0 l1 l2 h0 h1 h2 a b nothing ending r is none end e = record {
   source = r.source ∙ ap (λ o. before_told r.read o) (is ∙ ap (λ (n : List ℕ). before_told n l2) none ∙ sym (told_no l2));
   sink = e.wrote ∙ ap (λ o. told_before o e.text) r.fed.wrote ∙ told_twice h0 r.fed.text e.text;
   answers = λ worlds whole s.
-      let at = moved whole (outcome_of_rest worlds b) r.read r.fed.text (r.fed.stands worlds whole [] [] s) in
-      answers_end ending whole l2 r.read r.fed.text e.text (outcome_of_rest worlds b []) end (at.goes_on []) (e.answers worlds);
+      let now = moved worlds b whole r.read r.fed.text (r.fed.stands worlds whole [] [] s) in
+      answers_end ending whole l2 r.read r.fed.text e.text (outcome_of_rest worlds (at_of b now.machine) []) end (now.at.goes_on []) (e.answers worlds now.machine now.stands);
 }
 
 -- ---- the whole script
 
-start_is_script : (worlds : List World) (bytes : List ℕ) → script_outcome worlds bytes ≡ outcome_of_rest worlds start bytes
-unfolding outcome_of_rest outcome_of_lines start script_outcome
+start_is_script : (worlds : List World) (bytes : List ℕ) → script_outcome worlds bytes ≡ outcome_of_rest worlds (at_of at_first None) bytes
+unfolding outcome_of_rest outcome_of_lines at_first script_outcome
 start_is_script worlds bytes = refl
 
 nothing_said : (worlds : List World) → [] ≡ (script_outcome worlds []).text
 unfolding script_outcome lines outcome
 nothing_said worlds = refl
 
+stands_at : (worlds : List World) → StandsAt (script_outcome worlds) (outcome_of_rest worlds (at_of at_first None)) [] []
+stands_at worlds = record { goes_on = λ more. start_is_script worlds more; answers = nothing_said worlds }
+
 -- a run begins where nothing was read and nothing written
-stands_first : (worlds : List World) → StandsAt (script_outcome worlds) (outcome_of_rest worlds start) [] []
-stands_first worlds = record { goes_on = λ more. start_is_script worlds more; answers = nothing_said worlds }
+stands_first : (worlds : List World) → SessionAt worlds at_first (script_outcome worlds) [] []
+unfolding at_first
+stands_first worlds = record { machine = None; stands = tt; at = stands_at worlds }
 
 told_left : (script read : List ℕ) (left : Option (List ℕ)) → Some script ≡ before_told read left → (rest : List ℕ) × (left ≡ Some rest) × (script ≡ read ++ rest)
 told_left script read None e = absurd cc
@@ -135,7 +139,7 @@ headline_of Unwritten worlds script rest read written left is split h = rw split
 headline_of NoMemory worlds script rest read written left is split h = rw split (h rest is)
 
 pub runs_script : (code : ℕ) (script held : List ℕ) (l0 l1 h0 h1 : Option (List ℕ)) (ending : Ending) → code ≡ code_of ending → l0 ≡ Some script → h0 ≡ Some held
-    → Ran l0 l1 h0 h1 start ending → RunsScript l1 h1 script held code
+    → Ran l0 l1 h0 h1 at_first ending → RunsScript l1 h1 script held code
 runs_script code script held l0 l1 h0 h1 ending status tells holds r =
     let t = told_left script r.read l1 (sym tells ∙ r.source) in
     record {

@@ -1,7 +1,7 @@
 -- How a run ends, and what each ending says of the script and of what was written.
-use Rattle.std.specs.Prelude.{◌≡◌, ◌≢◌, ◌⊎◌, codes, ℕ, ◌+◌, ◌-◌, ◌^◌, ◌<◌, ◌≤◌, Bool, true, false, List, [], ◌∷◌, ◌++◌, take, Option, Some, Result, Ok, Err}
+use Rattle.std.specs.Prelude.{◌≡◌, ◌≢◌, ◌⊎◌, codes, ℕ, ◌≤◌, Bool, true, false, List, [], ◌∷◌, ◌++◌, take, Option, Some, Result, Ok, Err}
 use Rattle.std.specs.Str.{bytes_eq}
-use Rattle.outside_world.specs.Told.{told_before, before_told, AtEnd}
+use Rattle.outside_world.specs.Told.{told_before, AtEnd}
 use Rattle.outside_world.specs.Causes.{Rose}
 use Rattle.machine_model.specs.Machine.{World}
 use Rattle.machine_model.specs.Script.{Outcome, script_outcome, whole_lines}

@@ -1,7 +1,9 @@
 -- A run in the middle of its script.
-use Rattle.std.specs.Prelude.{◌≡◌, ℕ, Bool, true, false, ◌||◌, List, [], ◌∷◌, ◌++◌, Option, Some, None}
+use Rattle.std.specs.Prelude.{◌≡◌, ◌<◌, ℕ, Bool, true, false, ◌||◌, List, [], ◌∷◌, ◌++◌, Option, Some, None}
 use Rattle.outside_world.specs.Told.{told_before, before_told}
 use Rattle.machine_model.specs.Machine.{World, Machine}
+use Rattle.cluster_core.specs.ClusterView.{ClusterState}
+use Rattle.cluster_core.specs.Standing.{StandsFor}
 use Rattle.machine_model.specs.Script.{Line, put_front, lines, whole_lines, Outcome, outcome}
 use Rattle.backup_run.specs.declared.stops.Stop.{Stop}
 use Rattle.backup_run.specs.declared.stops.Ending.{Ending}
@@ -16,9 +18,33 @@ pub record At : Type 0 where
   pub room : ℕ
   pub refused : Bool
 
+-- what is in memory of it: its cluster, if a command came already
+pub record Here : Type 0 where
+  pub cluster : Option ClusterState
+  pub pending : List ℕ
+  pub line : ℕ
+  pub room : ℕ
+  pub refused : Bool
+
+-- where it stands with a machine
+abbrev pub at_of : Here → Option Machine → At
+at_of h m = record { machine = m; pending = h.pending; line = h.line; room = h.room; refused = h.refused }
+
+-- a cluster stands for a machine, none for none
+abbrev pub StandsAs : Option ClusterState → Option Machine → Type 0
+StandsAs None None = Unit {0}
+StandsAs None (Some m) = ⊥
+StandsAs (Some c) None = ⊥
+StandsAs (Some c) (Some m) = StandsFor c m
+
+-- the cluster has executed fewer commands than the number of a line
+abbrev pub HasStepped : Option ClusterState → ℕ → Type 0
+HasStepped None n = Unit {0}
+HasStepped (Some c) n = c.steps < n
+
 -- a run that has read nothing
-unfoldable pub start : At
-start = record { machine = None; pending = []; line = 1; room = 67108864; refused = false }
+unfoldable pub at_first : Here
+at_first = record { cluster = None; pending = []; line = 1; room = 67108864; refused = false }
 
 -- bytes in front of the first line
 abbrev pub put_all : List ℕ → List Line → List Line
@@ -44,6 +70,12 @@ written_before text o = record { text = text ++ o.text; refused = o.refused; mal
 abbrev pub ended_at : Bool → Outcome
 ended_at refused = record { text = []; refused = refused; malformed = false }
 
+-- A run goes on from here with some machine, of which `after` says what is to come: what came `before` is a text, and then that.
+pub record Goes {X : Type 0} (new : Here) (text : List ℕ) (before : X → Outcome) (after : At → X → Outcome) : Type 0 where
+  pub machine : Option Machine
+  pub stands : StandsAs new.cluster machine
+  pub goes_on : (more : X) → before more ≡ written_before text (after (at_of new machine) more)
+
 -- what a line says: its text, and whether that is a refusal or the last of a malformed script
 abbrev pub SaysLine : {X : Type 0} → Bool → Bool → List ℕ → (X → Outcome) → (X → Outcome) → Type 0
 SaysLine {X} true refused text before after = (more : X) → before more ≡ record { text = text; refused = false; malformed = true }
@@ -55,34 +87,40 @@ pub record StandsAt (whole rest : List ℕ → Outcome) (read text : List ℕ) :
   pub goes_on : (more : List ℕ) → whole (read ++ more) ≡ written_before text (rest more)
   pub answers : text ≡ (whole (whole_lines read)).text
 
+-- with some machine for which its cluster stands
+pub record SessionAt (worlds : List World) (h : Here) (whole : List ℕ → Outcome) (read text : List ℕ) : Type 0 where
+  pub machine : Option Machine
+  pub stands : StandsAs h.cluster machine
+  pub at : StandsAt whole (outcome_of_rest worlds (at_of h machine)) read text
+
 -- a piece was read and answered
-pub record Fed (held_old held_new : Option (List ℕ)) (old new : At) (piece : List ℕ) : Type 0 where
+pub record Fed (held_old held_new : Option (List ℕ)) (old new : Here) (piece : List ℕ) : Type 0 where
   pub text : List ℕ
   pub wrote : held_new ≡ told_before held_old text
-  pub stands : (worlds : List World) (whole : List ℕ → Outcome) (read front : List ℕ) → StandsAt whole (outcome_of_rest worlds old) read front → StandsAt whole (outcome_of_rest worlds new) (read ++ piece) (front ++ text)
+  pub stands : (worlds : List World) (whole : List ℕ → Outcome) (read front : List ℕ) → SessionAt worlds old whole read front → SessionAt worlds new whole (read ++ piece) (front ++ text)
 
 -- a piece was read, and the run ended in it
-pub record EndedIn (held_old held_new : Option (List ℕ)) (old : At) (piece : List ℕ) (stop : Stop) : Type 0 where
+pub record EndedIn (held_old held_new : Option (List ℕ)) (old : Here) (piece : List ℕ) (stop : Stop) : Type 0 where
   pub text : List ℕ
   pub wrote : held_new ≡ told_before held_old text
-  pub ends : (worlds : List World) (whole : List ℕ → Outcome) (read front : List ℕ) → StandsAt whole (outcome_of_rest worlds old) read front → (more : List ℕ) → EndsBy stop (front ++ text) (whole ((read ++ piece) ++ more))
+  pub ends : (worlds : List World) (whole : List ℕ → Outcome) (read front : List ℕ) → SessionAt worlds old whole read front → (more : List ℕ) → EndsBy stop (front ++ text) (whole ((read ++ piece) ++ more))
 
 -- these bytes were read since the run stood at `old`
-pub record Running (left_old left_now held_old held_now : Option (List ℕ)) (old now : At) : Type 0 where
+pub record Running (left_old left_now held_old held_now : Option (List ℕ)) (old now : Here) : Type 0 where
   pub read : List ℕ
   pub source : left_old ≡ before_told read left_now
   pub fed : Fed held_old held_now old now read
 
 -- the input is at its end
-pub record AtInputEnd (held_old held_new : Option (List ℕ)) (old : At) (ending : Ending) : Type 0 where
+pub record AtInputEnd (held_old held_new : Option (List ℕ)) (old : Here) (ending : Ending) : Type 0 where
   pub text : List ℕ
   pub wrote : held_new ≡ told_before held_old text
-  pub answers : (worlds : List World) → AnswersAtEnd ending text (outcome_of_rest worlds old [])
+  pub answers : (worlds : List World) (m : Option Machine) → StandsAs old.cluster m → AnswersAtEnd ending text (outcome_of_rest worlds (at_of old m) [])
 
 -- what a run read and wrote since it stood at `old`
-pub record Ran (left_old left_new held_old held_new : Option (List ℕ)) (old : At) (ending : Ending) : Type 0 where
+pub record Ran (left_old left_new held_old held_new : Option (List ℕ)) (old : Here) (ending : Ending) : Type 0 where
   pub read : List ℕ
   pub written : List ℕ
   pub source : left_old ≡ before_told read left_new
   pub sink : held_new ≡ told_before held_old written
-  pub answers : (worlds : List World) (whole : List ℕ → Outcome) → StandsAt whole (outcome_of_rest worlds old) [] [] → Answers ending whole left_new read written
+  pub answers : (worlds : List World) (whole : List ℕ → Outcome) → SessionAt worlds old whole [] [] → Answers ending whole left_new read written

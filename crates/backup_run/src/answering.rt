@@ -1,8 +1,9 @@
 //! What a line is answered.
-ghost use Rattle.std.specs.Prelude.{◌≡◌, true, false, is_none, IfOk, List, []};
-ghost use Rattle.machine_model.specs.Machine.{World};
+ghost use Rattle.std.specs.Prelude.{◌≡◌, ◌<◌, ◌≤◌, ◌+◌, true, false, is_none, IfOk, List, [], Option};
+ghost use Rattle.machine_model.specs.Machine.{World, Machine};
+ghost use Rattle.cluster_core.specs.Standing.{StandsFor};
 ghost use Rattle.machine_model.specs.Script.{first_machine, after_reply, reply_before, response_of, machine_of, command_step, reading_before, machine_after, read_at, is_refusal, Outcome, malformed_text};
-ghost use Rattle.backup_run.specs.Run.{SaysLine};
+ghost use Rattle.backup_run.specs.Run.{SaysLine, StandsAs, HasStepped};
 
 use cluster_core::{Cluster, Limits};
 use command_lang::{Command, LineFault, parse_line};
@@ -29,7 +30,8 @@ fn is_refusal(response: &Response) -> bool
 /// The cluster with which a run begins.
 #[tactic(auto, unfolding(machine_model::specs::Script::first_machine))]
 fn first_cluster(alloc: Global, name: Name) -> Cluster
-    ensures { result ≡ first_machine name }
+    ensures stands { StandsFor result (first_machine name) }
+    ensures steps { result.steps ≡ 0 }
 {
     let limits = Limits {
         events: 1_000_000,
@@ -52,14 +54,20 @@ fn response_said(alloc: Global, response: Response) -> Result<Said, Memory>
     })
 }
 
-/// Executes a command. The first one makes the cluster: None where another comes first.
+/// Executes a command, of the line of a number. The first one makes the cluster: None where another
+/// comes first.
 fn execute(
     alloc: Global,
     cluster: &mut Option<Cluster>,
+    number: u32,
     command: &Command,
 ) -> Result<Option<Response>, Memory>
-    ensures response { IfOk result (λ r. (worlds : List World) → r ≡ response_of (command_step worlds cluster.old command.now)) }
-    ensures machine { IfOk result (λ _. (worlds : List World) → cluster.new ≡ machine_of (command_step worlds cluster.old command.now)) }
+    requires stepped { HasStepped cluster.old number }
+    requires first { 0 < number }
+    requires few { number ≤ 67108864 }
+    ensures response { IfOk result (λ r. (worlds : List World) (m : Option Machine) → StandsAs cluster.old m → r ≡ response_of (command_step worlds m command.now)) }
+    ensures machine { IfOk result (λ _. (worlds : List World) (m : Option Machine) → StandsAs cluster.old m → StandsAs cluster.new (machine_of (command_step worlds m command.now))) }
+    ensures stepped { IfOk result (λ _. HasStepped cluster.new (number + 1)) }
 {
     match cluster {
         Some(known) => Ok(Some(known.step(command)?)),
@@ -103,11 +111,15 @@ fn command_said(
     number: u32,
     command: &Command,
 ) -> Result<Said, Memory>
-    ensures said { IfOk result (λ said. (worlds : List World) → SaysLine said.malformed said.refused said.text.items
-        (λ (o : Outcome). reply_before number (response_of (command_step worlds cluster.old command.now)) o) (λ o. o)) }
-    ensures machine { IfOk result (λ _. (worlds : List World) → cluster.new ≡ machine_of (command_step worlds cluster.old command.now)) }
+    requires stepped { HasStepped cluster.old number }
+    requires first { 0 < number }
+    requires few { number ≤ 67108864 }
+    ensures said { IfOk result (λ said. (worlds : List World) (m : Option Machine) → StandsAs cluster.old m → SaysLine said.malformed said.refused said.text.items
+        (λ (o : Outcome). reply_before number (response_of (command_step worlds m command.now)) o) (λ o. o)) }
+    ensures machine { IfOk result (λ _. (worlds : List World) (m : Option Machine) → StandsAs cluster.old m → StandsAs cluster.new (machine_of (command_step worlds m command.now))) }
+    ensures stepped { IfOk result (λ _. HasStepped cluster.new (number + 1)) }
 {
-    match execute(alloc, cluster, command)? {
+    match execute(alloc, cluster, number, command)? {
         Some(response) => response_said(alloc, response),
         None => malformed_said(alloc, number, 1),
     }
@@ -139,9 +151,13 @@ pub fn line_said(
     number: u32,
     line: &[u8],
 ) -> Result<Said, Memory>
-    ensures said { IfOk result (λ said. (worlds : List World) → SaysLine said.malformed said.refused said.text.items
-        (λ (o : Outcome). reading_before worlds number cluster.old (read_at cluster.old line.now) o) (λ o. o)) }
-    ensures machine { IfOk result (λ _. (worlds : List World) → cluster.new ≡ machine_after worlds cluster.old (read_at cluster.old line.now)) }
+    requires stepped { HasStepped cluster.old number }
+    requires first { 0 < number }
+    requires few { number ≤ 67108864 }
+    ensures said { IfOk result (λ said. (worlds : List World) (m : Option Machine) → StandsAs cluster.old m → SaysLine said.malformed said.refused said.text.items
+        (λ (o : Outcome). reading_before worlds number m (read_at m line.now) o) (λ o. o)) }
+    ensures machine { IfOk result (λ _. (worlds : List World) (m : Option Machine) → StandsAs cluster.old m → StandsAs cluster.new (machine_after worlds m (read_at m line.now))) }
+    ensures stepped { IfOk result (λ _. HasStepped cluster.new (number + 1)) }
 {
     let first = is_first(cluster);
     match parse_line(alloc, line, first) {

@@ -1,9 +1,9 @@
 //! A run in the middle of its script.
-ghost use Rattle.std.specs.Prelude.{◌≡◌, ◌≢◌, ◌<◌, ◌+◌, ◌∷◌, [], ◌==◌, ◌||◌, not, length, ℕ, IfOk, List, true, false};
-ghost use Rattle.machine_model.specs.Machine.{World};
+ghost use Rattle.std.specs.Prelude.{◌≡◌, ◌≢◌, ◌<◌, ◌+◌, ◌∷◌, [], ◌==◌, ◌||◌, not, length, ℕ, IfOk, List, Option, true, false};
+ghost use Rattle.machine_model.specs.Machine.{World, Machine};
 ghost use Rattle.machine_model.specs.Script.{Line, Within};
 ghost use Rattle.backup_run.specs.Endings.{IsLast};
-ghost use Rattle.backup_run.specs.Run.{start, written_before, ended_at, outcome_of_lines, outcome_of_rest};
+ghost use Rattle.backup_run.specs.Run.{at_first, at_of, StandsAs, Goes, written_before, ended_at, outcome_of_lines, outcome_of_rest};
 
 use crate::answering::{Said, line_said, malformed_said, nothing_said};
 use cluster_core::Cluster;
@@ -23,9 +23,13 @@ pub struct Session {
 }
 
 impl Model for Session {
-    ghost use Rattle.backup_run.specs.Run.{At};
+    ghost use Rattle.backup_run.specs.Run.{Here};
+    ghost use Rattle.std.specs.Coded.{codes};
+    ghost use Rattle.cluster_core.specs.contracts.cluster.Cluster as known;
 
-    ghost Value = { At };
+    ghost Value = { Here };
+
+    ghost coded = { Prim.hlevel (codes, known.the_row.coded) };
 
     ghost use Rattle.backup_run.specs.SessionView.{view_of, Bounds};
 
@@ -42,9 +46,9 @@ fn either(a: bool, b: bool) -> bool
 
 impl Session {
     /// A run that has read nothing, of a script of at most 67,108,864 bytes.
-    #[tactic(auto, unfolding(crate::specs::Run::start))]
+    #[tactic(auto, unfolding(crate::specs::Run::at_first))]
     pub fn new(alloc: Global) -> Session
-        ensures { result ≡ start }
+        ensures { result ≡ at_first }
     {
         Session {
             alloc,
@@ -71,17 +75,23 @@ impl Session {
         !self.pending.is_empty()
     }
 
-    /// Executes the line that was read.
+    /// Executes the line that was read. A cluster that wanted memory takes no further command.
     fn end_line(&mut self) -> Result<Said, Memory>
         requires { self.old.line + self.old.room < 67108865 }
-        ensures malformed { IfOk result (λ said. said.malformed ≡ true → (worlds : List World) (ls : List Line) →
-            IsLast said.text.items (outcome_of_lines worlds self.old (Within self.old.pending ∷ ls))) }
-        ensures goes_on { IfOk result (λ said. said.malformed ≡ false → (worlds : List World) (ls : List Line) →
-            outcome_of_lines worlds self.old (Within self.old.pending ∷ ls) ≡ written_before said.text.items (outcome_of_lines worlds self.new ls)) }
+        ensures malformed { IfOk result (λ said. said.malformed ≡ true → (worlds : List World) (m : Option Machine) → StandsAs self.old.cluster m → (ls : List Line) →
+            IsLast said.text.items (outcome_of_lines worlds (at_of self.old m) (Within self.old.pending ∷ ls))) }
+        ensures goes_on { IfOk result (λ said. said.malformed ≡ false → (worlds : List World) (m : Option Machine) → StandsAs self.old.cluster m →
+            Goes self.new said.text.items (λ ls. outcome_of_lines worlds (at_of self.old m) (Within self.old.pending ∷ ls)) (outcome_of_lines worlds)) }
         ensures cleared { IfOk result (λ _. self.new.pending ≡ []) }
         ensures room { self.new.room ≡ self.old.room }
     {
-        let said = line_said(self.alloc, &mut self.cluster, self.line, &self.pending)?;
+        let said = match line_said(self.alloc, &mut self.cluster, self.line, &self.pending) {
+            Ok(said) => said,
+            Err(memory) => {
+                self.cluster = None;
+                return Err(memory);
+            }
+        };
         self.pending.clear();
         self.line += 1;
         self.refused = either(self.refused, said.refused);
@@ -90,10 +100,10 @@ impl Session {
 
     /// Takes a byte of the script.
     pub fn take_byte(&mut self, byte: u8) -> Result<Said, Memory>
-        ensures malformed { IfOk result (λ said. said.malformed ≡ true → (worlds : List World) (more : List ℕ) →
-            IsLast said.text.items (outcome_of_rest worlds self.old (byte ∷ more))) }
-        ensures goes_on { IfOk result (λ said. said.malformed ≡ false → (worlds : List World) (more : List ℕ) →
-            outcome_of_rest worlds self.old (byte ∷ more) ≡ written_before said.text.items (outcome_of_rest worlds self.new more)) }
+        ensures malformed { IfOk result (λ said. said.malformed ≡ true → (worlds : List World) (m : Option Machine) → StandsAs self.old.cluster m → (more : List ℕ) →
+            IsLast said.text.items (outcome_of_rest worlds (at_of self.old m) (byte ∷ more))) }
+        ensures goes_on { IfOk result (λ said. said.malformed ≡ false → (worlds : List World) (m : Option Machine) → StandsAs self.old.cluster m →
+            Goes self.new said.text.items (λ more. outcome_of_rest worlds (at_of self.old m) (byte ∷ more)) (outcome_of_rest worlds)) }
         ensures room { IfOk result (λ said. said.malformed ≡ false → self.new.room + 1 ≡ self.old.room) }
         ensures cleared { IfOk result (λ said. said.malformed ≡ false → byte ≡ 10 → self.new.pending ≡ []) }
         ensures quiet { IfOk result (λ said. said.malformed ≡ false → byte ≢ 10 → said.text.items ≡ []) }
@@ -116,10 +126,10 @@ impl Session {
 
     /// Takes the end of the input, which may end a line.
     pub fn end_input(&mut self) -> Result<Said, Memory>
-        ensures malformed { IfOk result (λ said. said.malformed ≡ true → (worlds : List World) →
-            IsLast said.text.items (outcome_of_rest worlds self.old [])) }
-        ensures goes_on { IfOk result (λ said. said.malformed ≡ false → (worlds : List World) →
-            outcome_of_rest worlds self.old [] ≡ written_before said.text.items (ended_at self.new.refused)) }
+        ensures malformed { IfOk result (λ said. said.malformed ≡ true → (worlds : List World) (m : Option Machine) → StandsAs self.old.cluster m →
+            IsLast said.text.items (outcome_of_rest worlds (at_of self.old m) [])) }
+        ensures goes_on { IfOk result (λ said. said.malformed ≡ false → (worlds : List World) (m : Option Machine) → StandsAs self.old.cluster m →
+            outcome_of_rest worlds (at_of self.old m) [] ≡ written_before said.text.items (ended_at self.new.refused)) }
     {
         if self.is_amid_line() {
             return self.end_line();

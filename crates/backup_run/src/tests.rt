@@ -1,6 +1,9 @@
 //! Worked scripts, and each status once.
 ghost use Rattle.std.specs.Prelude.{None};
 
+mod orders;
+mod rows;
+mod schemas;
 mod times;
 
 use super::*;
@@ -75,7 +78,7 @@ CREATE TABLE d.t (k INT, v STRING, PRIMARY KEY (k DESC))
 CREATE TABLE d.t (k INT, PRIMARY KEY (k))
 CREATE TABLE d.u (k INT, k INT, PRIMARY KEY (n))
 CREATE TABLE d.u (k INT, PRIMARY KEY (k), REFERENCES d.t)
-UPSERT INTO d.u VALUES (1)
+UPSERT INTO d.w VALUES (1)
 UPSERT INTO d.t VALUES (1, 'a'), (2, 3)
 UPSERT INTO d.t VALUES (1)
 UPSERT INTO d.t VALUES (1, 'a'), (1, 'b')
@@ -91,13 +94,13 @@ refused 4 DatabaseExists database=d
 ok table=100 at=0.0000000001
 refused 6 NameTaken table=d.t
 refused 8 BadSchema which=1
-refused 39 NotBuilt
-refused 5 NoSuchTable table=d.u
+ok table=101 at=0.0000000002
+refused 5 NoSuchTable table=d.w
 refused 9 WrongRow row=2 column=2
 refused 9 WrongRow row=1 column=0
 refused 15 DuplicateKey row=2
-ok rows=2 at=0.0000000002
-refused 11 Future now=0.0000000002
+ok rows=2 at=0.0000000003
+refused 11 Future now=0.0000000003
 ok rows=2
   (1, NULL)
   (-2, 'it''s')

@@ -3,7 +3,7 @@ ghost use Rattle.std.specs.Prelude.{◌↔◌, true, false, ◌≡◌, ◌<◌, 
 ghost use Rattle.machine_model.specs.Machine.{World};
 ghost use Rattle.machine_model.specs.Script.{script_outcome};
 ghost use Rattle.backup_run.specs.Endings.{RunsScript, code_of, are_known, CodeCause, RunCause, Completes, done_ending};
-ghost use Rattle.backup_run.specs.Run.{start, Ran, AtInputEnd};
+ghost use Rattle.backup_run.specs.Run.{at_first, Ran, AtInputEnd};
 
 use crate::feeding::{end_input, feed};
 use crate::session::Session;
@@ -69,7 +69,7 @@ fn make_room(alloc: Global, len: usize) -> Result<Vec<u8>, Memory>
 
 /// Executes a script.
 fn run_script<S: Source, K: Sink>(alloc: Global, source: &mut S, sink: &mut K) -> Ending
-    ensures ran { Ran (S.left source.old) (S.left source.new) (K.held sink.old) (K.held sink.new) start result }
+    ensures ran { Ran (S.left source.old) (S.left source.new) (K.held sink.old) (K.held sink.new) at_first result }
     ensures cause { RunCause (S.faults source.old) (S.faults source.new) (K.faults sink.old) (K.faults sink.new) result }
 {
     let mut session = Session::new(alloc);

@@ -1,1 +1,10 @@
-pub mod Walks
+pub mod Lists
+pub mod Tables
+pub mod Kept
+pub mod Looking
+pub mod Flow
+pub mod KeyKinds
+pub mod Adding
+pub mod SchemaCommands
+pub mod Reading
+pub mod Versions

@@ -1,3 +1,4 @@
-pub mod Facts
-pub mod TableView
 pub mod ClusterView
+pub mod Halting
+pub mod Finding
+pub mod Standing

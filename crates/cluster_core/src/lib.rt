@@ -1,11 +1,13 @@
-//! The machine over plain lists of facts: one command is one step.
+//! The machine over a catalog and a store of versions: one command is one step.
 #![tactic(auto)]
 
-mod checks;
 mod cluster;
-mod columns;
-mod puts;
-mod scanning;
-mod tables;
+mod finding;
+mod halts;
+mod rows;
+mod schemas;
 
 pub use cluster::{Cluster, Limits};
+
+#[cfg(test)]
+mod tests;

@@ -1,6 +1,6 @@
 -- Histories: databases, and tables of dated facts and dated descriptors.
-use Rattle.std.specs.Prelude.{ℕ, ◌+◌, Bool, true, false, not, ◌&&◌, List, reverse, Option, Some, None, option_map, option_and_then, unwrap_or, position, slice_get, sum_by, length}
-use Rattle.std.specs.List.{list_any, find}
+use Rattle.std.specs.Prelude.{ℕ, ◌+◌, Bool, true, false, not, ◌&&◌, List, map, reverse, Option, Some, None, option_map, option_and_then, unwrap_or, position, slice_get, sum_by, length}
+use Rattle.std.specs.List.{find}
 use Rattle.std.specs.Str.{bytes_eq}
 use Rattle.std.specs.declared.cmp.Ordering.{Ordering}
 use Rattle.mvcc_keys.specs.Times.{Time, time_le}
@@ -37,13 +37,17 @@ is_dropped Dropped = true
 abbrev pub has_name : List ℕ × List ℕ → Schema → Bool
 has_name name d = (bytes_eq d.database name.0 && bytes_eq d.name name.1) && not (is_dropped d.state)
 
--- the name of a database and a table belongs to the table at t
-abbrev pub is_named : List ℕ × List ℕ → Time → Table → Bool
-is_named name t table = unwrap_or (option_map (has_name name) (in_force table.descriptors t)) false
+-- the name of a database and a table belongs at t to the table with these descriptors
+abbrev pub is_named : List ℕ × List ℕ → Time → List Schema → Bool
+is_named name t descriptors = unwrap_or (option_map (has_name name) (in_force descriptors t)) false
 
 -- the place of the table to which the name belongs at t
-abbrev pub place_named : List Table → List ℕ × List ℕ → Time → Option ℕ
+abbrev pub place_named : List (List Schema) → List ℕ × List ℕ → Time → Option ℕ
 place_named tables name t = position (is_named name t) tables
+
+-- the descriptors of each table
+abbrev pub schemas_of : List Table → List (List Schema)
+schemas_of tables = map (λ (t : Table). t.descriptors) tables
 
 -- a table, its place, and its descriptor in force
 pub record Found : Type 0 where
@@ -56,10 +60,7 @@ found_at place t table = option_map (λ d. record { place = place; table = table
 
 -- the table to which the name belongs at t, with its descriptor in force at t
 abbrev pub named : List Table → List ℕ × List ℕ → Time → Option Found
-named tables name t = option_and_then (λ i. option_and_then (found_at i t) (slice_get tables i)) (place_named tables name t)
-
-abbrev pub has_database : History → List ℕ → Bool
-has_database h name = list_any (λ x. bytes_eq x name) h.databases
+named tables name t = option_and_then (λ i. option_and_then (found_at i t) (slice_get tables i)) (place_named (schemas_of tables) name t)
 
 -- the order of the keys of a table with this descriptor
 abbrev pub key_order : Schema → Key → Key → Ordering

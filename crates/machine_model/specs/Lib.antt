@@ -1,4 +1,6 @@
 pub mod Machine
+pub mod Refusals
 pub mod Tables
+pub mod TableRows
 pub mod Step
 pub mod Script

@@ -1,13 +1,15 @@
--- The state of a cluster, worlds beside it, and the frame of a command: tests, then a change.
+-- The state of a cluster, worlds beside it, and the frame of a command: tests in their order, then a change.
 use Rattle.std.specs.Prelude.{ℕ, Bool, List, [], ◌∷◌, Option, Some, None, if◌then◌else◌}
 use Rattle.mvcc_keys.specs.Times.{Time, next}
 use Rattle.reply_texts.specs.declared.refusals.Refusal.{Refusal}
-use Rattle.reply_texts.specs.declared.refusals.Refusal.TheVariants.{ClockFull, NoSuchTable}
+use Rattle.reply_texts.specs.declared.refusals.Refusal.TheVariants.{ClockFull, NoSuchTable, NotPublic}
 use Rattle.reply_texts.specs.declared.answers.Answer.{Answer}
 use Rattle.reply_texts.specs.declared.replies.Response.{Response}
 use Rattle.reply_texts.specs.declared.replies.Response.TheVariants.{Refused, Answered}
-use Rattle.history_model.specs.Histories.{History, Found, named}
+use Rattle.table_descriptors.specs.Descriptors.{Schema}
+use Rattle.history_model.specs.Histories.{History, Found, named, schemas_of}
 use Rattle.history_model.specs.Layers.{Layer}
+use Rattle.schema_catalog.specs.Catalogs.{Schemas, is_offline}
 
 -- how many facts may ever be accepted, and how many table ids given
 pub record Limits : Type 0 where
@@ -26,6 +28,10 @@ pub record Machine : Type 0 where
   pub limits : Limits
   pub clock : Time
   pub history : History
+
+-- its databases and its tables without their facts
+abbrev pub catalog_of : Machine → Schemas
+catalog_of m = record { databases = m.history.databases; tables = schemas_of m.history.tables; limit = m.limits.tables }
 
 -- a cluster of this name that has done nothing
 abbrev pub empty_machine : List ℕ → Time → Limits → Machine
@@ -84,3 +90,7 @@ with_found m name (Some found) change = change found
 -- what is done with the table to which the name belongs at t
 abbrev pub with_table : Machine → List ℕ × List ℕ → Time → (Found → Stepped) → Stepped
 with_table m name t change = with_found m name (named m.history.tables name t) change
+
+-- the table of the name is Offline
+abbrev pub offline_refusal : List ℕ × List ℕ → Schema → Option Refusal
+offline_refusal name d = refusal_if (is_offline d.state) (NotPublic name)

@@ -4,7 +4,7 @@ use Rattle.std.specs.List.{list_any}
 use Rattle.std.specs.Fmt.{decimal}
 use Rattle.mvcc_keys.specs.Times.{zero_time}
 use Rattle.command_lang.specs.declared.command.Command.{Command}
-use Rattle.command_lang.specs.declared.command.Command.TheVariants.{Cluster, Tick, CreateDatabase, CreateTable, Upsert, Select}
+use Rattle.command_lang.specs.declared.command.Command.TheVariants.{Cluster}
 use Rattle.command_lang.specs.Lines.{Reading, Skipped, Reads, Malformed, reading}
 use Rattle.reply_texts.specs.declared.replies.Response.{Response}
 use Rattle.reply_texts.specs.declared.replies.Response.TheVariants.{Refused, Answered}

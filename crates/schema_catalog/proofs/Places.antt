@@ -1,7 +1,6 @@
 -- Tables by their ids.
-use Rattle.std.proofs.Common.{◌≡◌, ℕ, zero, suc, ◌+◌, ◌-◌, ◌<◌, ◌≤◌, nat_lt, Bool, true, false, sym, refl, ap, ◌∙◌, subst, arith, List, [], ◌∷◌, length, Option, Some, None, slice_get, unwrap_or, if◌then◌else◌}
+use Rattle.std.proofs.Common.{◌≡◌, ℕ, zero, suc, ◌+◌, ◌-◌, ◌<◌, nat_lt, Bool, true, false, sym, refl, ap, ◌∙◌, arith, List, [], ◌∷◌, length, Option, Some, None, slice_get, unwrap_or, if◌then◌else◌}
 use Rattle.std.proofs.lemmas.Bool.Decides.{nat_tests}
-use Rattle.std.specs.List.{find}
 use Rattle.mvcc_keys.specs.Times.{Time}
 use Rattle.table_descriptors.specs.declared.changes.Change.{Change}
 use Rattle.table_descriptors.specs.Descriptors.{Schema, changed_schema}

@@ -1,19 +1,19 @@
 -- Names that differ belong to different tables.
-use Rattle.std.proofs.Common.{◌≡◌, ℕ, ◌+◌, ◌<◌, ◌≤◌, ◌==◌, ◌&&◌, ◌||◌, not, nat_le, nat_lt, Bool, true, false, sym, refl, ap, ap₂, ◌∙◌, subst, arith, List, [], ◌∷◌, length, get_or, Option, Some, None, option_map, unwrap_or, is_none, is_some, position, filter_map, if◌then◌else◌, ◌⊎◌, inl, inr}
+use Rattle.std.proofs.Common.{◌≡◌, ℕ, ◌<◌, ◌==◌, ◌&&◌, ◌||◌, not, nat_le, nat_lt, Bool, true, false, sym, refl, ap, ap₂, ◌∙◌, arith, List, [], ◌∷◌, length, get_or, Option, Some, None, option_map, unwrap_or, is_some, if◌then◌else◌}
 use Rattle.std.proofs.lemmas.Bool.{eqb-true}
 use Rattle.std.proofs.lemmas.Bool.Decides.{nat_tests}
 use Rattle.std.proofs.lemmas.List.Quantifiers.{position-Some}
 use Rattle.std.proofs.lemmas.Slice.Eq.{bytes_eq-Decides}
-use Rattle.std.specs.List.{list_any, find}
+use Rattle.std.specs.List.{list_any}
 use Rattle.std.specs.Str.{bytes_eq}
 use Rattle.mvcc_keys.specs.Times.{Time}
 use Rattle.row_codec.specs.declared.rows.Kind.{Kind}
 use Rattle.row_codec.proofs.KeyOrder.{both_true}
 use Rattle.table_descriptors.specs.Descriptors.{Schema, repeats, repeats_id, repeats_column, repeats_key_column, are_columns, broken_rule, bad_schema}
-use Rattle.history_model.specs.Histories.{in_force, is_dropped, has_name}
+use Rattle.history_model.specs.Histories.{in_force, is_dropped, has_name, is_named, place_named}
 use Rattle.schema_catalog.specs.declared.faults.CatalogFault.{CatalogFault}
 use Rattle.schema_catalog.specs.declared.faults.CatalogFault.TheVariants.{NoSuchDatabase, NameTaken, TooManyTables}
-use Rattle.schema_catalog.specs.Catalogs.{Schemas, is_named, place_named, id_at, id_named, has_database, first_fault, fault_if, schema_fault, is_same_name, missing_fault, offline_fault, table_fault, reference_ids}
+use Rattle.schema_catalog.specs.Catalogs.{Schemas, id_at, has_database, first_fault, fault_if, schema_fault, is_same_name, missing_fault, offline_fault, table_fault, reference_ids}
 
 abbrev Name : Type 0
 Name = List ℕ × List ℕ

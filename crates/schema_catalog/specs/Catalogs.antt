@@ -1,15 +1,15 @@
 -- A catalog: databases, and tables by their dated descriptors; what its calls answer and what they leave.
-use Rattle.std.specs.Prelude.{◌≡◌, ◌<◌, ◌≤◌, ℕ, ◌+◌, ◌-◌, ◌==◌, Bool, true, false, not, ◌&&◌, nat_lt, nat_le, List, [], ◌∷◌, ◌++◌, map, length, take, Option, Some, None, is_some, is_none, option_map, option_and_then, unwrap_or, position, slice_get, slice_set, filter_map, if◌then◌else◌, Result, Ok, Err}
+use Rattle.std.specs.Prelude.{◌≡◌, ◌<◌, ◌≤◌, ℕ, ◌+◌, ◌-◌, Bool, true, false, not, ◌&&◌, nat_lt, nat_le, List, [], ◌∷◌, ◌++◌, map, length, take, Option, Some, None, is_some, is_none, option_map, option_and_then, unwrap_or, position, slice_get, slice_set, filter_map, if◌then◌else◌}
 use Rattle.std.specs.List.{AllByRecursion, list_any, find}
 use Rattle.std.specs.Str.{bytes_eq}
-use Rattle.mvcc_keys.specs.Times.{Time, time_lt, zero_time}
+use Rattle.mvcc_keys.specs.Times.{Time}
 use Rattle.row_codec.specs.declared.rows.Kind.{Kind}
 use Rattle.table_descriptors.specs.declared.columns.State.{State}
 use Rattle.table_descriptors.specs.declared.columns.State.TheVariants.{Public, Offline, Dropped}
 use Rattle.table_descriptors.specs.declared.changes.Change.{Change}
-use Rattle.table_descriptors.specs.declared.changes.Change.TheVariants.{Add, Remove, RenameColumn, Rename, Become}
+use Rattle.table_descriptors.specs.declared.changes.Change.TheVariants.{Rename, Become}
 use Rattle.table_descriptors.specs.Descriptors.{Schema, repeats, repeats_id, broken_rule, new_schema, bad_change, changed_schema, has_id}
-use Rattle.history_model.specs.Histories.{in_force, is_dropped, has_name}
+use Rattle.history_model.specs.Histories.{in_force, is_dropped, place_named}
 use Rattle.schema_catalog.specs.declared.faults.CatalogFault.{CatalogFault}
 use Rattle.schema_catalog.specs.declared.faults.CatalogFault.TheVariants.{NoSuchDatabase, DatabaseExists, NoSuchTable, NameTaken, NotPublic, BadSchema, Referenced, TooManyTables, Memory}
 
@@ -21,14 +21,6 @@ pub record Schemas : Type 0 where
 
 abbrev pub no_schemas : ℕ → Schemas
 no_schemas limit = record { databases = []; tables = []; limit = limit }
-
--- the name of a database and a table belongs at t to the table with these descriptors
-abbrev pub is_named : List ℕ × List ℕ → Time → List Schema → Bool
-is_named name t descriptors = unwrap_or (option_map (has_name name) (in_force descriptors t)) false
-
--- the place of the table to which the name belongs at t
-abbrev pub place_named : List (List Schema) → List ℕ × List ℕ → Time → Option ℕ
-place_named tables name t = position (is_named name t) tables
 
 -- the id of the table at a place
 abbrev pub id_at : ℕ → ℕ

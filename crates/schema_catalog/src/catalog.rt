@@ -4,8 +4,8 @@ ghost use Rattle.std.specs.List.{find, list_any};
 ghost use Rattle.std.specs.Option.{option_copied};
 ghost use Rattle.mvcc_keys.specs.Times.{Time};
 ghost use Rattle.table_descriptors.specs.Descriptors.{Schema, repeats, changed_schema, bad_change, bad_schema};
-ghost use Rattle.history_model.specs.Histories.{in_force};
-ghost use Rattle.schema_catalog.specs.Catalogs.{no_schemas, place_named, history_of, id_named, has_database, database_fault, with_database, is_same_name, is_missing, missing_fault, offline_fault, is_offline_at, table_fault, reference_ids, next_id, first_schema, with_table, taken_name, change_fault, with_descriptor, drop_fault, drop_each, with_tables, IsTableId, FaultIs, Schemas, without_last, refers, drop_one, dropped, AreChangeable, IsChangeable};
+ghost use Rattle.history_model.specs.Histories.{in_force, place_named};
+ghost use Rattle.schema_catalog.specs.Catalogs.{no_schemas, history_of, id_named, has_database, database_fault, with_database, is_same_name, is_missing, missing_fault, offline_fault, is_offline_at, table_fault, reference_ids, next_id, first_schema, with_table, taken_name, change_fault, with_descriptor, drop_fault, drop_each, with_tables, IsTableId, FaultIs, Schemas, without_last, refers, drop_one, dropped, AreChangeable, IsChangeable};
 ghost use Rattle.schema_catalog.specs.declared.faults.CatalogFault.TheVariants.{Referenced};
 
 use crate::CatalogFault;

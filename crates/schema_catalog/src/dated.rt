@@ -2,8 +2,8 @@
 ghost use Rattle.std.specs.Prelude.{◌≡◌, ◌∷◌, ◌++◌, ◌-◌, take, length, [], IfOk, OnOk, OnErr};
 ghost use Rattle.std.specs.List.{list_any};
 ghost use Rattle.std.specs.Option.{option_copied};
-ghost use Rattle.history_model.specs.Histories.{has_name, in_force, is_dropped};
-ghost use Rattle.schema_catalog.specs.Catalogs.{is_named, is_referring, refers};
+ghost use Rattle.history_model.specs.Histories.{has_name, in_force, is_dropped, is_named};
+ghost use Rattle.schema_catalog.specs.Catalogs.{is_referring, refers};
 ghost use Rattle.table_descriptors.specs.Descriptors.{has_id};
 
 use mvcc_keys::{Hlc, Memory};

@@ -1,4 +1,4 @@
-use Rattle.std.proofs.Common.{◌≡◌, ◌∙◌, refl, arith}
+use Rattle.std.proofs.Common.{◌∙◌, refl, arith}
 use Rattle.std.proofs.lemmas.Result.{err_from_is_err_and}
 use Rattle.backup_run.proofs.Steps.{fed_next, ended_next}
 use Rattle.backup_run.proofs.feeding.feed.Goals as goal

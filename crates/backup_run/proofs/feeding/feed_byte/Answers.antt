@@ -1,9 +1,14 @@
-use Rattle.std.proofs.Common.{◌≡◌, ℕ, List, subst, ap, ◌∙◌}
+use Rattle.std.proofs.Common.{ℕ, List, subst, ap, ◌∙◌}
 use Rattle.std.proofs.lemmas.Result.{err_from_is_err_and}
 use Rattle.outside_world.specs.Told.{told_before}
 use Rattle.backup_run.specs.Endings.{WritesPart}
-use Rattle.backup_run.proofs.Steps.{fed_byte, ended_by_fault}
+use Rattle.backup_run.proofs.Steps.{fed_byte, ended_by_fault, ended_wanting}
 use Rattle.backup_run.proofs.feeding.feed_byte.Goals as goal
+
+pub returns-in_err-said-clause-ended : goal.returns-in_err-said-clause-ended
+returns-in_err-said-clause-ended g c =
+    let p = err_from_is_err_and c.from_residual.result c.from_residual.ensures.1 in
+    rw (p.1, p.2) (ended_wanting _ c.args.session.now c.args.byte)
 
 pub returns-in_err-write_all-clause-ended : goal.returns-in_err-write_all-clause-ended
 returns-in_err-write_all-clause-ended g c =

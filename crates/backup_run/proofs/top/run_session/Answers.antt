@@ -1,4 +1,4 @@
-use Rattle.std.proofs.Common.{◌≡◌, ◌<◌, refl, List, ℕ, length, take, sym, ap, ◌∙◌, arith}
+use Rattle.std.proofs.Common.{◌<◌, refl, List, ℕ, length, take, sym, ap, ◌∙◌, arith}
 use Rattle.outside_world.specs.Told.{before_told}
 use Rattle.backup_run.proofs.Runs.{running_first, running_next, ran_unread, ran_stopped, ran_ended}
 use Rattle.backup_run.proofs.top.run_session.Goals as goal

@@ -1,4 +1,4 @@
-use Rattle.std.proofs.Common.{◌≡◌, ◌++◌, ◌∷◌, [], map, List}
+use Rattle.std.proofs.Common.{◌≡◌, ◌++◌, ◌∷◌, [], map}
 use Rattle.table_descriptors.specs.Descriptors.{Schema}
 use Rattle.schema_catalog.proofs.catalog.all_dated.Given as goal
 

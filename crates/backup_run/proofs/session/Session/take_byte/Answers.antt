@@ -1,18 +1,15 @@
-use Rattle.std.proofs.Common.{◌≡◌, ◌≢◌, ℕ, ◌+◌, ◌-◌, suc, List, [], ◌∷◌, ◌++◌, length, true, false, refl, sym, ap, subst, ◌∙◌, arith}
+use Rattle.std.proofs.Common.{◌≡◌, ℕ, ◌+◌, List, length, sym, subst, arith}
 use Rattle.std.proofs.lemmas.Bool.Decides.{nat_tests}
-use Rattle.machine_model.specs.Script.{malformed_text, Outcome}
-use Rattle.backup_run.specs.Endings.{IsLast}
-use Rattle.backup_run.specs.Run.{outcome_of_rest}
-use Rattle.machine_model.specs.Machine.{World}
+use Rattle.machine_model.specs.Script.{malformed_text}
 use Rattle.backup_run.specs.SessionView.{view_of}
-use Rattle.backup_run.proofs.Saying.{last_said, last_beyond, last_too_long, newline_last, newline_goes_on, byte_goes_on}
+use Rattle.backup_run.proofs.Saying.{IsLastFrom, last_said, last_beyond, last_too_long, newline_last, newline_goes_on, byte_goes_on}
 use Rattle.backup_run.proofs.session.Session.take_byte.Goals as goal
 
 pub returns-then-self-eq0-clause-malformed : goal.returns-then-self-eq0-clause-malformed
 returns-then-self-eq0-clause-malformed c =
     let b = c.args.byte in
-    rw (← c.self.view_is) (last_said c.malformed_said.result (malformed_text c.self.inside.line (length c.as_slice.result.now + 1)) (λ (worlds : List World) (more : List ℕ). outcome_of_rest worlds (view_of c.self.inside) (b ∷ more)) c.malformed_said.ensures.text
-    (subst (λ (p : List ℕ). (worlds : List World) (more : List ℕ) → IsLast (malformed_text c.self.inside.line (length p + 1)) (outcome_of_rest worlds (view_of c.self.inside) (b ∷ more))) (sym c.as_slice.ensures.value) (last_beyond _ b c.if-self-eq0.true c.self.invariant.line)))
+    rw (← c.self.view_is) (last_said c.malformed_said.result (malformed_text c.self.inside.line (length c.as_slice.result.now + 1)) (view_of c.self.inside) b c.malformed_said.ensures.text
+    (subst (λ (p : List ℕ). IsLastFrom (view_of c.self.inside) b (malformed_text c.self.inside.line (length p + 1))) (sym c.as_slice.ensures.value) (last_beyond _ b c.if-self-eq0.true c.self.invariant.line)))
 
 pub returns-then-byte-eq10-clause-malformed : goal.returns-then-byte-eq10-clause-malformed
 returns-then-byte-eq10-clause-malformed c =
@@ -26,8 +23,8 @@ pub returns-then-len-eq65536-clause-malformed : goal.returns-then-len-eq65536-cl
 returns-then-len-eq65536-clause-malformed c =
     let b = c.args.byte in
     let full : length c.self.inside.pending.items ≡ 65536 = grind (arith, nat_tests) in
-    rw (← c.self.view_is) (last_said c.malformed_said-then-len-eq65536.result (malformed_text c.self.inside.line 65537) (λ (worlds : List World) (more : List ℕ). outcome_of_rest worlds (view_of c.self.inside) (b ∷ more)) c.malformed_said-then-len-eq65536.ensures.text (last_too_long _ b c.if-self-eq0.false c.if-byte-eq10.false full))
+    rw (← c.self.view_is) (last_said c.malformed_said-then-len-eq65536.result (malformed_text c.self.inside.line 65537) (view_of c.self.inside) b c.malformed_said-then-len-eq65536.ensures.text (last_too_long _ b c.if-self-eq0.false c.if-byte-eq10.false full))
 
 pub returns-clause-goes_on : goal.returns-clause-goes_on
-returns-clause-goes_on c = λ _ worlds more.
-    rw (← c.self.view_is, c.nothing_said.ensures.text) (byte_goes_on _ c.args.byte c.push.new.self.items c.if-self-eq0.false c.if-byte-eq10.false c.in_ok-push.ensures.items worlds more)
+returns-clause-goes_on c = λ _.
+    rw (← c.self.view_is) (byte_goes_on _ c.args.byte c.push.new.self.items _ c.nothing_said.ensures.text c.if-self-eq0.false c.if-byte-eq10.false c.in_ok-push.ensures.items)

@@ -1,5 +1,4 @@
 use Rattle.std.proofs.Common.{◌≡◌, ◌∙◌, ◌+◌, ◌-◌, ap, subst, None}
-use Rattle.mvcc_keys.specs.Times.{Time}
 use Rattle.table_descriptors.specs.Descriptors.{Schema, changed_schema}
 use Rattle.schema_catalog.specs.Catalogs.{change_fault, with_descriptor}
 use Rattle.schema_catalog.proofs.Places.{next-version, one-schema}

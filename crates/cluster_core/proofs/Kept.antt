@@ -1,0 +1,245 @@
+-- The machines that a cluster stands for, where a command changes a table, adds one or moves the clock.
+use Rattle.std.proofs.Common.{◌≡◌, ◌≢◌, inl, inr, ℕ, ◌+◌, ◌==◌, nat_lt, Bool, true, false, cond, refl, sym, ap, ◌∙◌, subst, arith, List, [], ◌∷◌, ◌++◌, map, length, Option, Some, None, option_map, unwrap_or, slice_get, slice_set, reverse, get_or}
+use Rattle.std.proofs.Math.Path.{fun_ext}
+use Rattle.std.proofs.lemmas.Bool.{cases_Bool}
+use Rattle.std.proofs.lemmas.Bool.Decides.{nat_tests}
+use Rattle.std.proofs.lemmas.List.{reverse-append, map-append, length-append}
+use Rattle.std.proofs.lemmas.List.Sums.{sum_by-set, sum_by_push}
+use Rattle.std.proofs.lemmas.Option.{slice_get-map, slice_get_within, get_or_from_slice_get}
+use Rattle.mvcc_keys.specs.Times.{Time, time_lt, time_le, zero_time, next}
+use Rattle.table_descriptors.specs.Descriptors.{Schema, key_kinds}
+use Rattle.fact_model.specs.Facts.{Has, date}
+use Rattle.fact_model.proofs.Members.{has-append_cases}
+use Rattle.fact_model.proofs.TimeLaws.{le-refl, le-trans, le-from_lt, lt-le-absurd}
+use Rattle.history_model.specs.Rows.{RowFact}
+use Rattle.history_model.specs.Histories.{Table, in_force, schemas_of, accepted}
+use Rattle.version_store.specs.Tables.{no_facts}
+use Rattle.version_store.specs.MapHolding.{KeepsAll}
+use Rattle.version_store.specs.declared.mvcc_map.MvccMap.{MvccMap}
+use Rattle.table_rows.specs.RowTables.{HasRows, MayAdd, coded, with_facts, with_threshold}
+use Rattle.schema_catalog.specs.Catalogs.{Schemas, no_schemas, with_descriptor, with_table}
+use Rattle.machine_model.specs.Machine.{empty_machine}
+use Rattle.machine_model.specs.Tables.{described, new_table}
+use Rattle.machine_model.specs.TableRows.{extended, raised}
+use Rattle.cluster_core.specs.ClusterView.{ClusterState}
+use Rattle.cluster_core.specs.Standing.{table_kinds, kinds_of, table_facts, table_threshold, rows_of, IsOwn, IsOrderly, Keeps, StandsFor, by_id}
+use Rattle.cluster_core.proofs.Lists.{got-set, got-set_other, map-set, set-same, got-push, find-has}
+use Rattle.cluster_core.proofs.Tables.{by_id-at, rows-same, rows-more, rows-raised, rows-new}
+
+abbrev Stored : MvccMap → List Table → Type 0
+Stored store tables = HasRows (λ h. KeepsAll store.tables.entries h) (rows_of tables)
+
+-- ---- descriptors in force
+
+reverse-has : {X : Type 0} (xs : List X) (x : X) → Has x (reverse xs) → Has x xs
+reverse-has [] x h = h
+reverse-has (y ∷ ys) x h = elim (has-append_cases x (reverse ys) (y ∷ []) (subst (λ (zs : List _). Has x zs) (reverse-append (y ∷ []) ys) h)) [
+  | inl front ↦ inr (reverse-has ys x front)
+  | inr last ↦ first last
+]
+  where
+    first : Has x (y ∷ []) → Has x (y ∷ ys)
+    first (inl e) = inl e
+    first (inr none) = absurd none
+
+pub in_force-has : (ds : List Schema) (t : Time) (d : Schema) → in_force ds t ≡ Some d → Has d ds
+in_force-has ds t d e = reverse-has ds d (find-has (λ (x : Schema). time_le x.modified t) (reverse ds) d e)
+
+-- ---- time that passes
+
+pub next-later : (s t : Time) → next s ≡ Some t → time_lt s t ≡ true
+next-later s t e = by (nat_lt s.logical 2147483647) refl
+  where
+    by : (b : Bool) → nat_lt s.logical 2147483647 ≡ b → time_lt s t ≡ true
+    by true l = let is : Some (record { wall = s.wall; logical = s.logical + 1 }) ≡ Some t = rw l at e in
+        (let same : record { wall = s.wall; logical = s.logical + 1 } ≡ t = cc is in subst (λ (x : Time). time_lt s x ≡ true) same (grind (arith, nat_tests)))
+    by false l = let is : None ≡ Some t = rw l at e in cc is
+
+later : (s t : Time) (id : ℕ) (table : Table) → time_le s t ≡ true → IsOrderly s id table → IsOrderly t id table
+later s t id table le o = record {
+  id_is = o.id_is;
+  schemas = o.schemas;
+  facts = λ f has. le-trans (date f) s t (o.facts f has) le;
+  threshold = le-trans table.threshold s t o.threshold le;
+}
+
+-- the same tables
+pub keeps-as : (old new : ClusterState) (tables : List Table) → Keeps old tables → new.schemas.tables ≡ old.schemas.tables → new.store ≡ old.store → new.events ≡ old.events → time_le old.clock new.clock ≡ true → Keeps new tables
+keeps-as old new tables k schemas store events le = record {
+  schemas = k.schemas ∙ sym schemas;
+  rows = subst (λ (s : MvccMap). Stored s tables) (sym store) k.rows;
+  events = k.events ∙ sym events;
+  orderly = λ i table got. later old.clock new.clock (100 + i) table le (k.orderly i table got);
+}
+
+-- ---- one table changes
+
+some-is : {X : Type 0} (x y : X) → Some x ≡ Some y → x ≡ y
+some-is x y e = cc e
+
+keeps-set : (old new : ClusterState) (tables : List Table) (i : ℕ) (t u : Table) → Keeps old tables → slice_get tables i ≡ Some t → schemas_of (slice_set tables i u) ≡ new.schemas.tables → Stored new.store (slice_set tables i u)
+    → accepted (slice_set tables i u) ≡ new.events → time_le old.clock new.clock ≡ true → IsOrderly new.clock (100 + i) u → Keeps new (slice_set tables i u)
+keeps-set old new tables i t u k got schemas rows events le orderly = record {
+  schemas = schemas;
+  rows = rows;
+  events = events;
+  orderly = λ j table is. elim (cases_Bool (j == i)) [
+    | inl e ↦ (let same : j ≡ i = grind (arith, nat_tests, e) in
+        let is_u : u ≡ table = some-is u table (sym (got-set tables i t u got) ∙ (ap (slice_get (slice_set tables i u)) (sym same) ∙ is)) in
+        subst (λ (x : ℕ). IsOrderly new.clock (100 + x) table) (sym same) (subst (λ (x : Table). IsOrderly new.clock (100 + i) x) is_u orderly))
+    | inr e ↦ (let other : j ≢ i = grind (arith, nat_tests, e) in
+        later old.clock new.clock (100 + j) table le (k.orderly j table (sym (got-set_other tables i j u other) ∙ is)))
+  ];
+}
+
+same-schemas : (tables : List Table) (i : ℕ) (t u : Table) → slice_get tables i ≡ Some t → u.descriptors ≡ t.descriptors → schemas_of (slice_set tables i u) ≡ schemas_of tables
+same-schemas tables i t u got is =
+    map-set (λ (x : Table). x.descriptors) tables i u
+    ∙ (ap (slice_set (schemas_of tables) i) is ∙ set-same (schemas_of tables) i t.descriptors (slice_get-map (λ (x : Table). x.descriptors) tables i ∙ ap (option_map (λ (x : Table). x.descriptors)) got))
+
+same-accepted : (tables : List Table) (i n : ℕ) (t u : Table) → slice_get tables i ≡ Some t → length u.facts ≡ length t.facts + n → accepted (slice_set tables i u) ≡ accepted tables + n
+same-accepted tables i n t u got is =
+    let there : get_or tables i t ≡ t = get_or_from_slice_get tables i t t got in
+    let sum : accepted (slice_set tables i u) + length (get_or tables i t).facts ≡ accepted tables + length u.facts = sum_by-set (λ (x : Table). length x.facts) tables i u t (slice_get_within tables i t got) in
+    let sum' : accepted (slice_set tables i u) + length t.facts ≡ accepted tables + length u.facts = rw there at sum in
+    omega (arith, sum', is)
+
+-- facts are added to it, which are dated after the clock
+abbrev pub grown : ClusterState → MvccMap → Time → ℕ → ClusterState
+grown c store at n = record { name = c.name; most_events = c.most_events; clock = at; schemas = c.schemas; store = store; events = c.events + n; steps = c.steps; changes = c.changes }
+
+pub keeps-more : (c : ClusterState) (store : MvccMap) (at : Time) (tables : List Table) (i : ℕ) (t : Table) (fs : List RowFact) → Keeps c tables → slice_get tables i ≡ Some t → time_lt c.clock at ≡ true
+    → ((f : RowFact) → Has f fs → date f ≡ at) → HasRows (λ h. KeepsAll store.tables.entries h) (with_facts (100 + i) fs (rows_of tables)) → Keeps (grown c store at (length fs)) (slice_set tables i (extended t fs))
+keeps-more c store at tables i t fs k got lt dated has =
+    let u = extended t fs in
+    let o = k.orderly i t got in
+    let le : time_le c.clock at ≡ true = le-from_lt c.clock at lt in
+    keeps-set c (grown c store at (length fs)) tables i t u k got
+    (same-schemas tables i t u got refl ∙ k.schemas)
+    (subst (HasRows (λ h. KeepsAll store.tables.entries h)) (sym (rows-more tables i t u fs got refl refl refl)) has)
+    (same-accepted tables i (length fs) t u got (length-append t.facts fs) ∙ ap (λ n. n + length fs) k.events)
+    le
+    (record {
+      id_is = o.id_is;
+      schemas = o.schemas;
+      facts = λ f is. elim (has-append_cases f t.facts fs is) [ inl old ↦ le-trans (date f) c.clock at (o.facts f old) le | inr new ↦ subst (λ (x : Time). time_le x at ≡ true) (sym (dated f new)) (le-refl at) ];
+      threshold = le-trans t.threshold c.clock at o.threshold le;
+    })
+
+-- such facts may be added
+pub may-add : (c : ClusterState) (at : Time) (tables : List Table) (i : ℕ) (t : Table) (f : RowFact) → Keeps c tables → slice_get tables i ≡ Some t → time_lt c.clock at ≡ true → date f ≡ at → MayAdd (rows_of tables) (100 + i) f
+may-add c at tables i t f k got lt is =
+    let o = k.orderly i t got in
+    let facts : by_id [] table_facts tables (100 + i) ≡ t.facts = by_id-at [] table_facts tables i t got in
+    let threshold : by_id zero_time table_threshold tables (100 + i) ≡ t.threshold = by_id-at zero_time table_threshold tables i t got in
+    let before : time_le t.threshold c.clock ≡ true = o.threshold in
+    let late : time_lt t.threshold at ≡ true = grind (arith, nat_tests, before, lt) in
+    let apart : (g : RowFact) → Has g (by_id [] table_facts tables (100 + i)) → date g ≢ date f =
+    (λ g has e. lt-le-absurd c.clock at lt (subst (λ (x : Time). time_le x c.clock ≡ true) (e ∙ is) (o.facts g (subst (λ (fs : List RowFact). Has g fs) facts has)))) in
+    record {
+      late = subst (λ (x : Time). time_lt (by_id zero_time table_threshold tables (100 + i)) x ≡ true) (sym is) (subst (λ (x : Time). time_lt x at ≡ true) (sym threshold) late);
+      fresh = λ key g ok has g_touches f_touches. apart g has;
+      other_range = λ g has g_range f_range. apart g has;
+    }
+
+-- a descriptor is added to it
+abbrev pub redated : ClusterState → Schemas → Time → ClusterState
+redated c schemas at = record { name = c.name; most_events = c.most_events; clock = at; schemas = schemas; store = c.store; events = c.events; steps = c.steps; changes = c.changes + 1 }
+
+front-kinds : (ds : List Schema) (d e : Schema) → Has d ds → kinds_of (ds ++ e ∷ []) ≡ kinds_of ds
+front-kinds [] d e has = absurd has
+front-kinds (x ∷ xs) d e has = refl
+
+pub keeps-described : (c : ClusterState) (at : Time) (tables : List Table) (i : ℕ) (t : Table) (d e : Schema) → Keeps c tables → slice_get tables i ≡ Some t → time_lt c.clock at ≡ true → Has d t.descriptors
+    → e.id ≡ d.id → key_kinds e ≡ key_kinds d → Keeps (redated c (with_descriptor c.schemas i e) at) (slice_set tables i (described t e))
+keeps-described c at tables i t d e k got lt has id kinds =
+    let u = described t e in
+    let o = k.orderly i t got in
+    let le : time_le c.clock at ≡ true = le-from_lt c.clock at lt in
+    let first : table_kinds u ≡ table_kinds t = front-kinds t.descriptors d e has in
+    let there : slice_get c.schemas.tables i ≡ Some t.descriptors = ap (λ (xs : List (List Schema)). slice_get xs i) (sym k.schemas) ∙ (slice_get-map (λ (x : Table). x.descriptors) tables i ∙ ap (option_map (λ (x : Table). x.descriptors)) got) in
+    let own = o.schemas d has in
+    keeps-set c (redated c (with_descriptor c.schemas i e) at) tables i t u k got
+    (map-set (λ (x : Table). x.descriptors) tables i u ∙ (ap (λ (xs : List (List Schema)). slice_set xs i u.descriptors) k.schemas ∙ ap (λ (r : Option (List Schema)). slice_set c.schemas.tables i (unwrap_or r [] ++ e ∷ [])) (sym there)))
+    (subst (HasRows (λ h. KeepsAll c.store.tables.entries h)) (sym (rows-same tables i t u got first refl refl)) k.rows)
+    (same-accepted tables i 0 t u got (omega arith) ∙ (let zero : accepted tables + 0 ≡ accepted tables = omega arith in zero ∙ k.events))
+    le
+    (record {
+      id_is = o.id_is;
+      schemas = λ x is. elim (has-append_cases x t.descriptors (e ∷ []) is) [
+        | inl old ↦ (let w = o.schemas x old in record { id_is = w.id_is; kinds_are = first ∙ w.kinds_are })
+        | inr new ↦ last x new
+      ];
+      facts = λ f is. le-trans (date f) c.clock at (o.facts f is) le;
+      threshold = le-trans t.threshold c.clock at o.threshold le;
+    })
+  where
+    last : (x : Schema) → Has x (e ∷ []) → IsOwn (100 + i) (table_kinds (described t e)) x
+    last x (inl is) = (let own = (k.orderly i t got).schemas d has in
+        subst (IsOwn (100 + i) (table_kinds (described t e))) (sym is) (record { id_is = id ∙ own.id_is; kinds_are = front-kinds t.descriptors d e has ∙ (own.kinds_are ∙ sym kinds) }))
+    last x (inr none) = absurd none
+
+-- its threshold is raised
+abbrev pub restored : ClusterState → MvccMap → ClusterState
+restored c store = record { name = c.name; most_events = c.most_events; clock = c.clock; schemas = c.schemas; store = store; events = c.events; steps = c.steps; changes = c.changes }
+
+pub keeps-raised : (c : ClusterState) (store : MvccMap) (g : Time) (tables : List Table) (i : ℕ) (t : Table) → Keeps c tables → slice_get tables i ≡ Some t → time_lt c.clock g ≡ false
+    → HasRows (λ h. KeepsAll store.tables.entries h) (with_threshold (100 + i) g (rows_of tables)) → Keeps (restored c store) (slice_set tables i (record t { threshold = raised t.threshold g }))
+keeps-raised c store g tables i t k got past has =
+    let u : Table = record t { threshold = raised t.threshold g } in
+    let o = k.orderly i t got in
+    keeps-set c (restored c store) tables i t u k got
+    (same-schemas tables i t u got refl ∙ k.schemas)
+    (subst (HasRows (λ h. KeepsAll store.tables.entries h)) (sym (rows-raised tables i t u g got refl refl refl)) has)
+    (same-accepted tables i 0 t u got (omega arith) ∙ (let zero : accepted tables + 0 ≡ accepted tables = omega arith in zero ∙ k.events))
+    (le-refl c.clock)
+    (record { id_is = o.id_is; schemas = o.schemas; facts = o.facts; threshold = by (time_lt t.threshold g) o.threshold })
+  where
+    by : (b : Bool) → time_le t.threshold c.clock ≡ true → time_le (cond b g t.threshold) c.clock ≡ true
+    by true le = grind (arith, nat_tests, past)
+    by false le = le
+
+-- ---- a table is added
+
+pub keeps-new : (c : ClusterState) (at : Time) (tables : List Table) (d : Schema) → Keeps c tables → time_lt c.clock at ≡ true → d.id ≡ 100 + length tables → Keeps (redated c (with_table c.schemas d) at) (tables ++ new_table d ∷ [])
+keeps-new c at tables d k lt id = record {
+  schemas = map-append (λ (x : Table). x.descriptors) tables (new_table d ∷ []) ∙ ap (λ (xs : List (List Schema)). xs ++ (d ∷ []) ∷ []) k.schemas;
+  rows = rows-new (λ h. KeepsAll c.store.tables.entries h) tables (new_table d) refl refl k.rows;
+  events = sum_by_push (λ (x : Table). length x.facts) tables (new_table d) ∙ (let zero : accepted tables + 0 ≡ accepted tables = omega arith in zero ∙ k.events);
+  orderly = λ i table got. elim (got-push tables (new_table d) i table got) [
+    | inl there ↦ later c.clock at (100 + i) table (le-from_lt c.clock at lt) (k.orderly i table there)
+    | inr last ↦ subst (λ (n : ℕ). IsOrderly at (100 + n) table) (sym last.0) (subst (IsOrderly at (100 + length tables)) last.1 first)
+  ];
+}
+  where
+    own : (x : Schema) → Has x (d ∷ []) → IsOwn (100 + length tables) (table_kinds (new_table d)) x
+    own x (inl is) = subst (IsOwn (100 + length tables) (key_kinds d)) (sym is) (record { id_is = id; kinds_are = refl })
+    own x (inr none) = absurd none
+
+    first : IsOrderly at (100 + length tables) (new_table d)
+    first = record { id_is = id; schemas = own; facts = λ f none. absurd none; threshold = grind (arith, nat_tests) }
+
+-- ---- nothing yet
+
+by_id-none : {X : Type 0} (none : X) (f : Table → X) → by_id none f [] ≡ (λ (id : ℕ). none)
+by_id-none none f = fun_ext (λ id. by id (nat_lt id 100) refl)
+  where
+    by : (id : ℕ) (b : Bool) → nat_lt id 100 ≡ b → by_id none f [] id ≡ none
+    by id true low = rw low refl
+    by id false high = rw high refl
+
+pub stands-empty : (name : List ℕ) (events limit : ℕ) (clock : Time) (schemas : Schemas) (store : MvccMap) → schemas ≡ no_schemas limit → KeepsAll store.tables.entries no_facts
+    → StandsFor (record { name = name; most_events = events; clock = clock; schemas = schemas; store = store; events = 0; steps = 0; changes = 0 }) (empty_machine name clock (record { events = events; tables = limit }))
+stands-empty name events limit clock schemas store is keeps = record {
+  tables = [];
+  keeps = record {
+    schemas = ap (λ (s : Schemas). s.tables) (sym is);
+    rows = record {
+      bytes = subst (KeepsAll store.tables.entries) (λ i. record { facts = fun_ext (λ id. ap (λ (fs : ℕ → List RowFact). map (coded id (by_id [] table_kinds [] id)) (fs id)) (sym (by_id-none [] table_facts))) i; threshold = sym (by_id-none zero_time table_threshold) i }) keeps;
+      rows = λ id f has. absurd (subst (λ (fs : ℕ → List RowFact). Has f (fs id)) (by_id-none [] table_facts) has);
+    };
+    events = refl;
+    orderly = λ i table got. cc got;
+  };
+  machine_is = ap (λ (s : Schemas). record { name = name; limits = record { events = events; tables = s.limit }; clock = clock; history = record { databases = s.databases; tables = [] } }) (sym is);
+}

@@ -1,0 +1,10 @@
+use Rattle.machine_model.specs.Step.{step}
+use Rattle.cluster_core.specs.ClusterView.{view_of}
+use Rattle.cluster_core.proofs.Flow.{step-answered, step-refused}
+use Rattle.cluster_core.proofs.cluster.Cluster.step.Goals as goal
+
+pub returns-in-Ok-clause-step : goal.returns-in-Ok-clause-step
+returns-in-Ok-clause-step c = rw (← c.self.view_is) (λ worlds m s. step-answered (view_of c.self.inside) c.execute.new.self (λ x. step worlds x c.args.command.now) c.in-Ok.answer (c.in-Ok.ensures.step worlds) m s)
+
+pub returns-in-Err-Refused-clause-step : goal.returns-in-Err-Refused-clause-step
+returns-in-Err-Refused-clause-step c = rw (← c.self.view_is) (λ worlds m s. step-refused (view_of c.self.inside) c.execute.new.self (λ x. step worlds x c.args.command.now) c.in-Err-Refused.refusal c.in-Err-Refused.field-0 c.in-Err-Refused.field-0-is (c.in-Err-Refused.ensures.step worlds) m s)

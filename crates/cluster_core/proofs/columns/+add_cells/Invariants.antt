@@ -1,5 +1,0 @@
-use Rattle.std.proofs.Common.{length}
-use Rattle.cluster_core.proofs.columns.+add_cells.Given as goal
-
-abbrev pub decreases-add_cells : goal.decreases-add_cells
-decreases-add_cells l = length l.columns.now
