@@ -3,8 +3,8 @@
 
 use backup_run::Status;
 pub use backup_run::run;
-use mvcc_keys::{Memory, Text};
-use outside_world::{StdSink, StdSource, SureDisk};
+use mvcc_keys::Text;
+use outside_world::{FolderDisk, StdSink, StdSource};
 use std::env;
 use std::io::{self, ErrorKind};
 use std::process::ExitCode;
@@ -13,15 +13,11 @@ fn main(rt: HostRuntime) -> ExitCode {
     let Ok(words) = words_of(&rt) else {
         return ExitCode::from(7);
     };
-    match status_of(&rt, &words) {
-        Ok(status) => {
-            if status.code == 2 {
-                let _ = eprintln!(rt; "usage: backup_cli run | show | check | gen N");
-            }
-            ExitCode::from(status.code)
-        }
-        Err(Memory) => ExitCode::from(7),
+    let status = status_of(&rt, &words);
+    if status.code == 2 {
+        let _ = eprintln!(rt; "usage: backup_cli run | show | check | gen N");
     }
+    ExitCode::from(status.code)
 }
 
 /// The words after the program's name. Where one isn't UTF-8, the empty word stands for all, since
@@ -43,11 +39,11 @@ fn words_of(rt: &HostRuntime) -> io::Result<Vec<Text>> {
     Ok(words)
 }
 
-/// Runs over the standard streams.
-fn status_of(rt: &HostRuntime, words: &[Text]) -> Result<Status, Memory> {
+/// Runs over the standard streams and the folder `backup-store`.
+fn status_of(rt: &HostRuntime, words: &[Text]) -> Status {
     let alloc = rt.alloc();
     let mut source = StdSource::new(rt.stdin());
     let mut sink = StdSink::new(rt.stdout());
-    let mut disk = SureDisk::new(alloc, Vec::new(alloc))?;
-    Ok(run(alloc, words, &mut source, &mut sink, &mut disk))
+    let mut disk = FolderDisk::new(alloc, rt);
+    run(alloc, words, &mut source, &mut sink, &mut disk)
 }

@@ -27,7 +27,7 @@ unfolding reading
 long_line first line long = let t : ltb 65536 (length line) ≡ true = grind (arith, nat_tests) in rw t refl
 
 -- where the line so far has all the bytes that a line may have, another byte makes it malformed
-too_long : (worlds : List World) (n : ℕ) (m : Option Machine) (p : List ℕ) (b : ℕ) (ls : List Line) → length p ≡ 65536 → outcome worlds n m (put_all p (put_front b ls)) ≡ malformed_at n 65537
+too_long : (worlds : List World) (n : ℕ) (m : Option Machine) (p : List ℕ) (b : ℕ) (ls : List Line) → length p ≡ 65536 → outcome worlds n m (put_all p (put_front b ls)) ≡ malformed_at n 65537 m
 unfolding outcome
 too_long worlds n m p b [] full =
     rw (put_all_within p (b ∷ []) [], long_line (is_none m) (p ++ b ∷ []) (omega (arith, length-append p (b ∷ [])))) refl
@@ -38,12 +38,12 @@ too_long worlds n m p b (Beyond x ∷ ls) full =
     let column : column_beyond (p ++ b ∷ x) ≡ 65537 = min-eq_left (omega (arith, len, full)) in
     rw (put_all_beyond p (b ∷ x) ls, column) refl
 
-pub rest_too_long : (worlds : List World) (a : At) (room b : ℕ) (more : List ℕ) → a.room ≡ suc room → eqb b 10 ≡ false → length a.pending ≡ 65536 → outcome_of_rest worlds a (b ∷ more) ≡ with_refused a.refused (malformed_at a.line 65537)
+pub rest_too_long : (worlds : List World) (a : At) (room b : ℕ) (more : List ℕ) → a.room ≡ suc room → eqb b 10 ≡ false → length a.pending ≡ 65536 → outcome_of_rest worlds a (b ∷ more) ≡ with_refused a.refused (malformed_at a.line 65537 a.machine)
 unfolding outcome_of_rest outcome_of_lines lines
 rest_too_long worlds a room b more is other full = rw (is, other, too_long worlds a.line a.machine a.pending b (lines room more) full) refl
 
 -- the script has no room for another byte
-pub rest_beyond : (worlds : List World) (a : At) (b : ℕ) (more : List ℕ) → a.room ≡ 0 → length a.pending ≤ 65536 → outcome_of_rest worlds a (b ∷ more) ≡ with_refused a.refused (malformed_at a.line (length a.pending + 1))
+pub rest_beyond : (worlds : List World) (a : At) (b : ℕ) (more : List ℕ) → a.room ≡ 0 → length a.pending ≤ 65536 → outcome_of_rest worlds a (b ∷ more) ≡ with_refused a.refused (malformed_at a.line (length a.pending + 1) a.machine)
 unfolding outcome_of_rest outcome_of_lines lines outcome
 rest_beyond worlds a b more is fits =
     let column : column_beyond (a.pending ++ []) ≡ length a.pending + 1 = ap (λ (p : List ℕ). column_beyond p) (append-nil a.pending) ∙ min-eq_right (omega (arith, fits)) in
@@ -70,6 +70,6 @@ unfolding outcome_of_rest lines
 rest_ends worlds a some = ap (outcome_of_lines worlds a) (put_all_end a.pending some)
 
 -- nothing is left where no line has begun
-pub rest_nothing : (worlds : List World) (a : At) → length a.pending ≡ 0 → outcome_of_rest worlds a [] ≡ record { text = []; refused = a.refused || false; malformed = false }
+pub rest_nothing : (worlds : List World) (a : At) → length a.pending ≡ 0 → outcome_of_rest worlds a [] ≡ record { text = []; refused = a.refused || false; malformed = false; machine = a.machine }
 unfolding outcome_of_rest outcome_of_lines lines outcome
 rest_nothing worlds a none = rw (nil_from_length a.pending none) refl

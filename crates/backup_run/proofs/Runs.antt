@@ -1,19 +1,25 @@
 -- A run between two reads, and at its end.
-use Rattle.std.proofs.Common.{◌≡◌, inl, inr, ℕ, ◌-◌, ◌^◌, ◌<◌, List, [], ◌++◌, Some, None, refl, sym, ap, subst, ◌∙◌, arith, append_assoc}
+use Rattle.std.proofs.Common.{◌≡◌, ◌≢◌, inl, inr, ℕ, ◌-◌, ◌^◌, ◌<◌, Bool, true, false, List, [], ◌++◌, Some, None, refl, sym, ap, subst, ◌∙◌, arith, append_assoc}
 use Rattle.std.specs.Prelude.{Option}
 use Rattle.std.proofs.lemmas.List.{append-nil}
 use Rattle.outside_world.specs.Told.{told_before, before_told, AtEnd}
 use Rattle.outside_world.specs.Causes.{Rose}
+use Rattle.outside_world.specs.Disk.{View, IsImage, IsKnown}
+use Rattle.outside_world.specs.Moments.{LeavesOnly}
+use Rattle.outside_world.specs.Objects.{Objects}
+use Rattle.outside_world.proofs.Runs.{only_none, only_then, then_call}
 use Rattle.machine_model.specs.Machine.{World}
-use Rattle.machine_model.specs.Script.{Outcome, outcome, lines, script_outcome}
+use Rattle.machine_model.specs.Disks.{IsReady, StandsUntil}
+use Rattle.machine_model.proofs.DiskLaws.{ready_leaves}
+use Rattle.machine_model.specs.Script.{Outcome, outcome, lines, script_outcome, whole_lines}
 use Rattle.backup_run.specs.declared.stops.Stop.{Stop}
-use Rattle.backup_run.specs.declared.stops.Stop.TheVariants.{Malformed, WriteFault, Memory}
+use Rattle.backup_run.specs.declared.stops.Stop.TheVariants.{Malformed, WriteFault, DiskFault, Memory}
 use Rattle.backup_run.specs.declared.stops.Ending.{Ending}
-use Rattle.backup_run.specs.declared.stops.Ending.TheVariants.{AllDone, SomeRefused, IllFormed, ReadFault, Unwritten, NoMemory}
-use Rattle.backup_run.specs.Endings.{EndsBy, Answers, AnswersAtEnd, Headline, RunsScript, ending_of, code_of, CodeCause, RunCause, Completes}
-use Rattle.backup_run.specs.Run.{Here, at_of, at_first, SessionAt, StandsAt, Fed, EndedIn, Running, AtInputEnd, Ran, written_before, outcome_of_rest, outcome_of_lines}
-use Rattle.backup_run.proofs.Steps.{begins_written, begins_more, fed_nothing, fed_fed, fed_ended}
-use Rattle.backup_run.proofs.Telling.{told_twice}
+use Rattle.backup_run.specs.declared.stops.Ending.TheVariants.{AllDone, SomeRefused, IllFormed, ReadFault, Unwritten, DiskFailed, NoMemory}
+use Rattle.backup_run.specs.Endings.{AnswersFront, Begins, EndsBy, Answers, AnswersAtEnd, IsLast, IsWhole, IsComplete, RunsScript, ending_of, code_of, CodeCause, ReadCause, WriteCause, StoreCause, StaysLow, Completes}
+use Rattle.backup_run.specs.Run.{Here, at_of, at_first, SessionAt, StandsAt, IsHere, Fed, EndedIn, Running, AtInputEnd, Ran, written_before, outcome_of_rest, outcome_of_lines}
+use Rattle.backup_run.proofs.Steps.{begins_written, begins_more, lines_begin, here, fed_nothing, fed_fed, fed_ended}
+use Rattle.backup_run.proofs.Telling.{told_twice, told_nothing}
 
 -- ---- what a source tells
 
@@ -32,76 +38,119 @@ only_end (Some x) more end e = let same : x ≡ more = cc in sym same ∙ end
 
 -- ---- between two reads
 
-pub running_first : (left held : Option (List ℕ)) (at : Here) → Running left left held held at at
-running_first left held at = record { read = []; source = told_no left; fed = fed_nothing held at }
+pub running_first : (left held : Option (List ℕ)) (v : View) (at : Here) → (IsKnown v → (image : Objects) → v.left_since v.moment image → IsImage v image) → Running left left held held v v at at
+running_first left held v at only = record { read = []; source = told_no left; fed = fed_nothing held v at only }
 
 -- a piece was read and fed
-pub running_next : (l0 l1 l2 h0 h1 h2 : Option (List ℕ)) (a b c : Here) (piece : List ℕ)
-    → Running l0 l1 h0 h1 a b → l1 ≡ before_told piece l2 → Fed h1 h2 b c piece → Running l0 l2 h0 h2 a c
-running_next l0 l1 l2 h0 h1 h2 a b c piece r is t = record {
+pub running_next : (l0 l1 l2 h0 h1 h2 : Option (List ℕ)) (v0 v1 v2 : View) (a b c : Here) (piece : List ℕ)
+    → Running l0 l1 h0 h1 v0 v1 a b → l1 ≡ before_told piece l2 → Fed h1 h2 v1 v2 b c piece → Running l0 l2 h0 h2 v0 v2 a c
+running_next l0 l1 l2 h0 h1 h2 v0 v1 v2 a b c piece r is t = record {
   read = r.read ++ piece;
   source = r.source ∙ ap (λ o. before_told r.read o) is ∙ told_read l2 r.read piece;
-  fed = fed_fed h0 h1 h2 a b c r.read piece r.fed t;
+  fed = fed_fed h0 h1 h2 v0 v1 v2 a b c r.read piece r.fed t;
 }
 
--- the start, with no bytes read and nothing written, moved to where the bytes of a run are
-moved : (worlds : List World) (h : Here) (whole : List ℕ → Outcome) (read text : List ℕ) → SessionAt worlds h whole ([] ++ read) ([] ++ text) → SessionAt worlds h whole read text
-moved worlds h whole read text s = s
+-- where the run stands now, from the start, at which nothing was read
+now_at : (l0 l1 h0 h1 : Option (List ℕ)) (v0 v1 : View) (a b : Here) (worlds : List World) (whole : List ℕ → Outcome) (more : List ℕ) → (r : Running l0 l1 h0 h1 v0 v1 a b)
+    → SessionAt worlds a v0 whole [] [] (r.read ++ more) → SessionAt worlds b v1 whole r.read r.fed.text more
+now_at l0 l1 h0 h1 v0 v1 a b worlds whole more r s = r.fed.stands worlds whole [] [] more s
+
+-- nothing was read
+pub ran_nothing : (left held : Option (List ℕ)) (v : View) (at : Here) → (IsKnown v → (image : Objects) → v.left_since v.moment image → IsImage v image) → Ran left left held held v v at NoMemory
+ran_nothing left held v at only = record {
+  read = [];
+  written = [];
+  source = told_no left;
+  sink = sym (told_nothing held);
+  answers = λ worlds whole more tells s. ((whole more).text, refl);
+  leaves = λ worlds whole more tells s. ready_leaves _ v only s.ready;
+  ready = λ no. absurd no;
+  changes = only_none v;
+}
 
 -- a read failed
-pub ran_unread : (l0 l1 l2 h0 h1 : Option (List ℕ)) (a b : Here) → Running l0 l1 h0 h1 a b → l2 ≡ l1 → Ran l0 l2 h0 h1 a ReadFault
-ran_unread l0 l1 l2 h0 h1 a b r is = record {
+pub ran_unread : (l0 l1 l2 h0 h1 : Option (List ℕ)) (v0 v1 : View) (a b : Here) → Running l0 l1 h0 h1 v0 v1 a b → l2 ≡ l1 → Ran l0 l2 h0 h1 v0 v1 a ReadFault
+ran_unread l0 l1 l2 h0 h1 v0 v1 a b r is = record {
   read = r.read;
   written = r.fed.text;
   source = r.source ∙ ap (λ o. before_told r.read o) (sym is);
   sink = r.fed.wrote;
-  answers = λ worlds whole s.
-      let now = moved worlds b whole r.read r.fed.text (r.fed.stands worlds whole [] [] s) in
-      (now.at.answers, λ more. begins_written r.fed.text (whole (r.read ++ more)) (outcome_of_rest worlds (at_of b now.machine) more) (now.at.goes_on more));
+  answers = λ worlds whole more left s.
+      let now = now_at l0 l1 h0 h1 v0 v1 a b worlds whole more r s in
+      (now.at.answers, begins_written r.fed.text (whole (r.read ++ more)) (outcome_of_rest worlds (at_of b now.machine) more) (now.at.goes_on more));
+  leaves = λ worlds whole more left s. r.fed.leaves worlds whole [] [] more s;
+  ready = λ no. absurd no;
+  changes = r.fed.changes;
 }
 
-answers_stopped : (stop : Stop) (whole : List ℕ → Outcome) (left : Option (List ℕ)) (read text : List ℕ) → ((more : List ℕ) → EndsBy stop text (whole (read ++ more))) → Answers (ending_of stop) whole left read text
-answers_stopped Malformed whole left read text h = λ more _. h more
-answers_stopped WriteFault whole left read text h = λ more _. h more
-answers_stopped Memory whole left read text h = λ more _. h more
+answers_stopped : (stop : Stop) (whole : List ℕ → Outcome) (read text more : List ℕ) → EndsBy stop whole read text more → Answers (ending_of stop) whole read more text
+answers_stopped Malformed whole read text more h = h
+answers_stopped WriteFault whole read text more h = h
+answers_stopped DiskFault whole read text more h = h
+answers_stopped Memory whole read text more h = h
 
 -- a piece was read, and the run ended in it
-pub ran_stopped : (l0 l1 l2 h0 h1 h2 : Option (List ℕ)) (a b : Here) (piece : List ℕ) (stop : Stop)
-    → Running l0 l1 h0 h1 a b → l1 ≡ before_told piece l2 → EndedIn h1 h2 b piece stop → Ran l0 l2 h0 h2 a (ending_of stop)
-ran_stopped l0 l1 l2 h0 h1 h2 a b piece stop r is t =
-    let w = fed_ended h0 h1 h2 a b r.read piece stop r.fed t in
+pub ran_stopped : (l0 l1 l2 h0 h1 h2 : Option (List ℕ)) (v0 v1 v2 : View) (a b : Here) (piece : List ℕ) (stop : Stop)
+    → Running l0 l1 h0 h1 v0 v1 a b → l1 ≡ before_told piece l2 → EndedIn h1 h2 v1 v2 b piece stop → Ran l0 l2 h0 h2 v0 v2 a (ending_of stop)
+ran_stopped l0 l1 l2 h0 h1 h2 v0 v1 v2 a b piece stop r is t =
+    let w = fed_ended h0 h1 h2 v0 v1 v2 a b r.read piece stop r.fed t in
     record {
       read = r.read ++ piece;
       written = w.text;
       source = r.source ∙ ap (λ o. before_told r.read o) is ∙ told_read l2 r.read piece;
       sink = w.wrote;
-      answers = λ worlds whole s. answers_stopped stop whole l2 (r.read ++ piece) w.text (w.ends worlds whole [] [] s);
+      answers = λ worlds whole more left s. answers_stopped stop whole (r.read ++ piece) w.text more (w.ends worlds whole [] [] more s);
+      leaves = λ worlds whole more left s. w.leaves worlds whole [] [] more s;
+      ready = λ complete worlds whole more left s. w.ready complete worlds whole [] [] more s;
+      changes = w.changes;
     }
 
-answers_end : (ending : Ending) (whole : List ℕ → Outcome) (left : Option (List ℕ)) (read front text : List ℕ) (o : Outcome)
-    → AtEnd left → whole (read ++ []) ≡ written_before front o → AnswersAtEnd ending text o → Answers ending whole left read (front ++ text)
-answers_end AllDone whole left read front text o end is h = (end, ap whole (sym (append-nil read)) ∙ is ∙ ap (written_before front) h)
-answers_end SomeRefused whole left read front text o end is h = (end, ap whole (sym (append-nil read)) ∙ is ∙ ap (written_before front) h)
-answers_end IllFormed whole left read front text o end is h = λ more e.
-    rw (only_end left more end e) (ap (λ (x : Outcome). x.text) is ∙ ap (λ (t : List ℕ). front ++ t) h.0, ap (λ (x : Outcome). x.malformed) is ∙ h.1)
-answers_end ReadFault whole left read front text o end is h = absurd h
-answers_end Unwritten whole left read front text o end is h = λ more e.
-    rw (only_end left more end e) (begins_more front text (whole (read ++ [])).text o.text h (ap (λ (x : Outcome). x.text) is))
-answers_end NoMemory whole left read front text o end is h = λ more e.
-    rw (only_end left more end e) (begins_more front text (whole (read ++ [])).text o.text h (ap (λ (x : Outcome). x.text) is))
+whole_after : (refused : Bool) (front text : List ℕ) (w o : Outcome) → w ≡ written_before front o → IsWhole refused text o → IsWhole refused (front ++ text) w
+whole_after refused front text w o is h = record {
+  text_is = ap (λ (x : Outcome). x.text) is ∙ ap (λ (t : List ℕ). front ++ t) h.text_is;
+  refused_is = ap (λ (x : Outcome). x.refused) is ∙ h.refused_is;
+  well_formed = ap (λ (x : Outcome). x.malformed) is ∙ h.well_formed;
+}
+
+answers_end : (ending : Ending) (whole : List ℕ → Outcome) (read front text : List ℕ) (o : Outcome)
+    → front ≡ (whole (whole_lines read)).text → whole (read ++ []) ≡ written_before front o → AnswersAtEnd ending text o → Answers ending whole read [] (front ++ text)
+answers_end AllDone whole read front text o lines is h = (refl, whole_after false front text (whole read) o (ap whole (sym (append-nil read)) ∙ is) h)
+answers_end SomeRefused whole read front text o lines is h = (refl, whole_after true front text (whole read) o (ap whole (sym (append-nil read)) ∙ is) h)
+answers_end IllFormed whole read front text o lines is h = (ap (λ (x : Outcome). x.text) is ∙ ap (λ (t : List ℕ). front ++ t) h.0, ap (λ (x : Outcome). x.malformed) is ∙ h.1)
+answers_end ReadFault whole read front text o lines is h = absurd h
+answers_end Unwritten whole read front text o lines is h = begins_more front text (whole (read ++ [])).text o.text h (ap (λ (x : Outcome). x.text) is)
+answers_end DiskFailed whole read front text o lines is h = (
+  record { front = whole_lines read; begins = lines_begin read; text_is = ap (λ (t : List ℕ). front ++ t) h ∙ append-nil front ∙ lines },
+  begins_more front text (whole (read ++ [])).text o.text (o.text, ap (λ (t : List ℕ). t ++ o.text) (sym h)) (ap (λ (x : Outcome). x.text) is),
+)
+answers_end NoMemory whole read front text o lines is h = begins_more front text (whole (read ++ [])).text o.text h (ap (λ (x : Outcome). x.text) is)
 
 -- the input was at its end
-pub ran_ended : (l0 l1 l2 h0 h1 h2 : Option (List ℕ)) (a b : Here) (nothing : List ℕ) (ending : Ending)
-    → Running l0 l1 h0 h1 a b → l1 ≡ before_told nothing l2 → nothing ≡ [] → AtEnd l2 → AtInputEnd h1 h2 b ending → Ran l0 l2 h0 h2 a ending
-ran_ended l0 l1 l2 h0 h1 h2 a b nothing ending r is none end e = record {
+pub ran_ended : (l0 l1 l2 h0 h1 h2 : Option (List ℕ)) (v0 v1 v2 : View) (a b : Here) (nothing : List ℕ) (ending : Ending)
+    → Running l0 l1 h0 h1 v0 v1 a b → l1 ≡ before_told nothing l2 → nothing ≡ [] → AtEnd l2 → AtInputEnd h1 h2 v1 v2 b ending → Ran l0 l2 h0 h2 v0 v2 a ending
+ran_ended l0 l1 l2 h0 h1 h2 v0 v1 v2 a b nothing ending r is none end e = record {
   read = r.read;
   written = r.fed.text ++ e.text;
   source = r.source ∙ ap (λ o. before_told r.read o) (is ∙ ap (λ (n : List ℕ). before_told n l2) none ∙ sym (told_no l2));
   sink = e.wrote ∙ ap (λ o. told_before o e.text) r.fed.wrote ∙ told_twice h0 r.fed.text e.text;
-  answers = λ worlds whole s.
-      let now = moved worlds b whole r.read r.fed.text (r.fed.stands worlds whole [] [] s) in
-      answers_end ending whole l2 r.read r.fed.text e.text (outcome_of_rest worlds (at_of b now.machine) []) end (now.at.goes_on []) (e.answers worlds now.machine now.stands);
+  answers = λ worlds whole more left s.
+      let now = last worlds whole more left s in
+      subst (λ (x : List ℕ). Answers ending whole r.read x (r.fed.text ++ e.text)) (sym (only_end l2 more end left))
+      (answers_end ending whole r.read r.fed.text e.text (outcome_of_rest worlds (at_of b now.machine) []) now.at.answers (now.at.goes_on []) (e.answers worlds now.machine (here worlds b v1 whole r.read r.fed.text [] now)));
+  leaves = λ worlds whole more left s.
+      let now = last worlds whole more left s in
+      then_call (r.fed.leaves worlds whole [] [] more s)
+      (subst (λ (m : Outcome). LeavesOnly v1 v2 (StandsUntil m.machine)) (sym (now.at.goes_on []) ∙ ap (λ (x : List ℕ). whole (r.read ++ x)) (sym (only_end l2 more end left)))
+      (e.leaves worlds now.machine (here worlds b v1 whole r.read r.fed.text [] now))) (λ image stands. stands);
+  ready = λ complete worlds whole more left s.
+      let now = last worlds whole more left s in
+      subst (λ (m : Outcome). IsReady m.machine v2) (sym (now.at.goes_on []) ∙ ap (λ (x : List ℕ). whole (r.read ++ x)) (sym (only_end l2 more end left)))
+      (e.ready complete worlds now.machine (here worlds b v1 whole r.read r.fed.text [] now));
+  changes = only_then r.fed.changes e.changes;
 }
+  where
+    last : (worlds : List World) (whole : List ℕ → Outcome) (more : List ℕ) → l2 ≡ Some more → SessionAt worlds a v0 whole [] [] (r.read ++ more) → SessionAt worlds b v1 whole r.read r.fed.text []
+    last worlds whole more left s = subst (λ (x : List ℕ). SessionAt worlds b v1 whole r.read r.fed.text x) (only_end l2 more end left) (now_at l0 l1 h0 h1 v0 v1 a b worlds whole more r s)
 
 -- ---- the whole script
 
@@ -117,31 +166,19 @@ stands_at : (worlds : List World) → StandsAt (script_outcome worlds) (outcome_
 stands_at worlds = record { goes_on = λ more. start_is_script worlds more; answers = nothing_said worlds }
 
 -- a run begins where nothing was read and nothing written
-stands_first : (worlds : List World) → SessionAt worlds at_first (script_outcome worlds) [] []
+stands_first : (worlds : List World) (v : View) (script : List ℕ) → IsReady (script_outcome worlds script).machine v → SessionAt worlds at_first v (script_outcome worlds) [] [] script
 unfolding at_first
-stands_first worlds = record { machine = None; stands = tt; at = stands_at worlds }
+stands_first worlds v script ready = record { machine = None; stands = tt; at = stands_at worlds; ready = ready }
 
 told_left : (script read : List ℕ) (left : Option (List ℕ)) → Some script ≡ before_told read left → (rest : List ℕ) × (left ≡ Some rest) × (script ≡ read ++ rest)
 told_left script read None e = absurd cc
 told_left script read (Some x) e = (x, refl, cc)
 
-headline_of : (ending : Ending) (worlds : List World) (script rest read written : List ℕ) (left : Option (List ℕ)) → left ≡ Some rest → script ≡ read ++ rest
-    → Answers ending (script_outcome worlds) left read written → Headline worlds ending script read rest written
-headline_of AllDone worlds script rest read written left is split h =
-    let none : rest ≡ [] = only_end left rest h.0 is in
-    (none, ap (script_outcome worlds) (split ∙ ap (λ (r : List ℕ). read ++ r) none ∙ append-nil read) ∙ h.1)
-headline_of SomeRefused worlds script rest read written left is split h =
-    let none : rest ≡ [] = only_end left rest h.0 is in
-    (none, ap (script_outcome worlds) (split ∙ ap (λ (r : List ℕ). read ++ r) none ∙ append-nil read) ∙ h.1)
-headline_of IllFormed worlds script rest read written left is split h = rw split (h rest is)
-headline_of ReadFault worlds script rest read written left is split h = (h.0, rw split (h.1 rest))
-headline_of Unwritten worlds script rest read written left is split h = rw split (h rest is)
-headline_of NoMemory worlds script rest read written left is split h = rw split (h rest is)
-
-pub runs_script : (code : ℕ) (script held : List ℕ) (l0 l1 h0 h1 : Option (List ℕ)) (ending : Ending) → code ≡ code_of ending → l0 ≡ Some script → h0 ≡ Some held
-    → Ran l0 l1 h0 h1 at_first ending → RunsScript l1 h1 script held code
-runs_script code script held l0 l1 h0 h1 ending status tells holds r =
+pub runs_script : (code : ℕ) (worlds : List World) (script held : List ℕ) (l0 l1 h0 h1 : Option (List ℕ)) (v0 v1 : View) (ending : Ending) → code ≡ code_of ending → l0 ≡ Some script → h0 ≡ Some held
+    → IsReady (script_outcome worlds script).machine v0 → Ran l0 l1 h0 h1 v0 v1 at_first ending → RunsScript worlds l1 h1 v0 v1 script held code
+runs_script code worlds script held l0 l1 h0 h1 v0 v1 ending status tells holds ready r =
     let t = told_left script r.read l1 (sym tells ∙ r.source) in
+    let s = subst (λ (bs : List ℕ). SessionAt worlds at_first v0 (script_outcome worlds) [] [] bs) t.2 (stands_first worlds v0 script ready) in
     record {
       ending = ending;
       read = r.read;
@@ -151,41 +188,67 @@ runs_script code script held l0 l1 h0 h1 ending status tells holds r =
       split = t.2;
       left = t.1;
       got = r.sink ∙ ap (λ o. told_before o r.written) holds;
-      headline = λ worlds. headline_of ending worlds script t.0 r.read r.written l1 t.1 t.2 (r.answers worlds (script_outcome worlds) (stands_first worlds));
+      answers = r.answers worlds (script_outcome worlds) t.0 t.1 s;
+      leaves = subst (λ (bs : List ℕ). LeavesOnly v0 v1 (StandsUntil (script_outcome worlds bs).machine)) (sym t.2) (r.leaves worlds (script_outcome worlds) t.0 t.1 s);
+      ready = λ complete. subst (λ (bs : List ℕ). IsReady (script_outcome worlds bs).machine v1) (sym t.2) (r.ready complete worlds (script_outcome worlds) t.0 t.1 s);
     }
 
 -- ---- completeness
 
 -- a count that stands below its end didn't rise
-stood : (before now : ℕ) → now ≡ before → before < 2 ^ 64 - 1 → Rose before now → ⊥
-stood before now is low rose = omega (arith, is, low, rose)
+stood : (before now : ℕ) → StaysLow before now → Rose before now → ⊥
+stood before now low rose = let same = low.0 in let less = low.1 in omega (arith, same, less, rose)
 
-pub code_cause : (ending : Ending) (code read read_now wrote wrote_now : ℕ) → code ≡ code_of ending → RunCause read read_now wrote wrote_now ending → CodeCause read read_now wrote wrote_now code
-code_cause AllDone code read read_now wrote wrote_now is cause = record { read_fault = λ e. absurd (omega (arith, is, e)); write_fault = λ e. absurd (omega (arith, is, e)); read_kept = λ _. cause.0; write_kept = λ _. cause.1 }
-code_cause SomeRefused code read read_now wrote wrote_now is cause = record { read_fault = λ e. absurd (omega (arith, is, e)); write_fault = λ e. absurd (omega (arith, is, e)); read_kept = λ _. cause.0; write_kept = λ _. cause.1 }
-code_cause IllFormed code read read_now wrote wrote_now is cause = record { read_fault = λ e. absurd (omega (arith, is, e)); write_fault = λ e. absurd (omega (arith, is, e)); read_kept = λ _. cause.0; write_kept = λ _. cause.1 }
-code_cause ReadFault code read read_now wrote wrote_now is cause = record { read_fault = λ _. cause.0; write_fault = λ e. absurd (omega (arith, is, e)); read_kept = λ other. absurd (other is); write_kept = λ _. cause.1 }
-code_cause Unwritten code read read_now wrote wrote_now is cause = record { read_fault = λ e. absurd (omega (arith, is, e)); write_fault = λ _. cause.1; read_kept = λ _. cause.0; write_kept = λ other. absurd (other is) }
-code_cause NoMemory code read read_now wrote wrote_now is cause = record { read_fault = λ e. absurd (omega (arith, is, e)); write_fault = λ e. absurd (omega (arith, is, e)); read_kept = λ _. cause.0; write_kept = λ _. cause.1 }
+pub read_cause : (ending : Ending) (code before now : ℕ) → code ≡ code_of ending → ReadCause before now ending → CodeCause 4 before now code
+read_cause AllDone code before now is cause = record { fault = λ e. absurd (omega (arith, is, e)); kept = λ _. cause }
+read_cause SomeRefused code before now is cause = record { fault = λ e. absurd (omega (arith, is, e)); kept = λ _. cause }
+read_cause IllFormed code before now is cause = record { fault = λ e. absurd (omega (arith, is, e)); kept = λ _. cause }
+read_cause ReadFault code before now is cause = record { fault = λ _. cause; kept = λ other. absurd (other is) }
+read_cause Unwritten code before now is cause = record { fault = λ e. absurd (omega (arith, is, e)); kept = λ _. cause }
+read_cause DiskFailed code before now is cause = record { fault = λ e. absurd (omega (arith, is, e)); kept = λ _. cause }
+read_cause NoMemory code before now is cause = record { fault = λ e. absurd (omega (arith, is, e)); kept = λ _. cause }
 
-completes_by : (ending : Ending) (worlds : List World) (script read rest written held : List ℕ) (held_new : Option (List ℕ)) → held_new ≡ Some (held ++ written)
-    → (ending ≡ ReadFault → ⊥) → (ending ≡ Unwritten → ⊥) → Headline worlds ending script read rest written → Completes held held_new (code_of ending) (script_outcome worlds script)
-completes_by AllDone worlds script read rest written held held_new got no4 no5 h =
-    inl (got ∙ ap (λ (o : Outcome). Some (held ++ o.text)) (sym h.1), inl (refl, ap (λ (o : Outcome). o.refused) h.1, ap (λ (o : Outcome). o.malformed) h.1))
-completes_by SomeRefused worlds script read rest written held held_new got no4 no5 h =
-    inl (got ∙ ap (λ (o : Outcome). Some (held ++ o.text)) (sym h.1), inr (inl (refl, ap (λ (o : Outcome). o.refused) h.1, ap (λ (o : Outcome). o.malformed) h.1)))
-completes_by IllFormed worlds script read rest written held held_new got no4 no5 h =
-    inl (got ∙ ap (λ (t : List ℕ). Some (held ++ t)) (sym h.0), inr (inr (refl, h.1)))
-completes_by ReadFault worlds script read rest written held held_new got no4 no5 h = absurd (no4 refl)
-completes_by Unwritten worlds script read rest written held held_new got no4 no5 h = absurd (no5 refl)
-completes_by NoMemory worlds script read rest written held held_new got no4 no5 h = inr refl
+pub write_cause : (ending : Ending) (code before now : ℕ) → code ≡ code_of ending → WriteCause before now ending → CodeCause 5 before now code
+write_cause AllDone code before now is cause = record { fault = λ e. absurd (omega (arith, is, e)); kept = λ _. cause }
+write_cause SomeRefused code before now is cause = record { fault = λ e. absurd (omega (arith, is, e)); kept = λ _. cause }
+write_cause IllFormed code before now is cause = record { fault = λ e. absurd (omega (arith, is, e)); kept = λ _. cause }
+write_cause ReadFault code before now is cause = record { fault = λ e. absurd (omega (arith, is, e)); kept = λ _. cause }
+write_cause Unwritten code before now is cause = record { fault = λ _. cause; kept = λ other. absurd (other is) }
+write_cause DiskFailed code before now is cause = record { fault = λ e. absurd (omega (arith, is, e)); kept = λ _. cause }
+write_cause NoMemory code before now is cause = record { fault = λ e. absurd (omega (arith, is, e)); kept = λ _. cause }
 
-pub completes : (code : ℕ) (script held : List ℕ) (l1 h1 : Option (List ℕ)) (read read_now wrote wrote_now : ℕ)
-    → RunsScript l1 h1 script held code → CodeCause read read_now wrote wrote_now code → read_now ≡ read → read < 2 ^ 64 - 1 → wrote_now ≡ wrote → wrote < 2 ^ 64 - 1
-    → (worlds : List World) → Completes held h1 code (script_outcome worlds script)
-completes code script held l1 h1 read read_now wrote wrote_now r cause read_is read_low wrote_is wrote_low worlds =
+pub store_cause : (ending : Ending) (code before now : ℕ) → code ≡ code_of ending → StoreCause before now ending → CodeCause 6 before now code
+store_cause AllDone code before now is cause = record { fault = λ e. absurd (omega (arith, is, e)); kept = λ _. cause }
+store_cause SomeRefused code before now is cause = record { fault = λ e. absurd (omega (arith, is, e)); kept = λ _. cause }
+store_cause IllFormed code before now is cause = record { fault = λ e. absurd (omega (arith, is, e)); kept = λ _. cause }
+store_cause ReadFault code before now is cause = record { fault = λ e. absurd (omega (arith, is, e)); kept = λ _. cause }
+store_cause Unwritten code before now is cause = record { fault = λ e. absurd (omega (arith, is, e)); kept = λ _. cause }
+store_cause DiskFailed code before now is cause = record { fault = λ _. cause; kept = λ other. absurd (other is) }
+store_cause NoMemory code before now is cause = record { fault = λ e. absurd (omega (arith, is, e)); kept = λ _. cause }
+
+completes_by : (ending : Ending) (worlds : List World) (script read rest written held : List ℕ) (held_new : Option (List ℕ)) → held_new ≡ Some (held ++ written) → script ≡ read ++ rest
+    → (code_of ending ≢ 4) → (code_of ending ≢ 5) → (code_of ending ≢ 6) → Answers ending (script_outcome worlds) read rest written → Completes held held_new (code_of ending) (script_outcome worlds script)
+completes_by AllDone worlds script read rest written held held_new got split no4 no5 no6 h =
+    let w = subst (λ (bs : List ℕ). IsWhole false written (script_outcome worlds bs)) (sym (split ∙ ap (λ (r : List ℕ). read ++ r) h.0 ∙ append-nil read)) h.1 in
+    inl (got ∙ ap (λ (t : List ℕ). Some (held ++ t)) (sym w.text_is), inl (refl, w.refused_is, w.well_formed))
+completes_by SomeRefused worlds script read rest written held held_new got split no4 no5 no6 h =
+    let w = subst (λ (bs : List ℕ). IsWhole true written (script_outcome worlds bs)) (sym (split ∙ ap (λ (r : List ℕ). read ++ r) h.0 ∙ append-nil read)) h.1 in
+    inl (got ∙ ap (λ (t : List ℕ). Some (held ++ t)) (sym w.text_is), inr (inl (refl, w.refused_is, w.well_formed)))
+completes_by IllFormed worlds script read rest written held held_new got split no4 no5 no6 h =
+    let w = subst (λ (bs : List ℕ). IsLast written (script_outcome worlds bs)) (sym split) h in
+    inl (got ∙ ap (λ (t : List ℕ). Some (held ++ t)) (sym w.0), inr (inr (refl, w.1)))
+completes_by ReadFault worlds script read rest written held held_new got split no4 no5 no6 h = absurd (no4 refl)
+completes_by Unwritten worlds script read rest written held held_new got split no4 no5 no6 h = absurd (no5 refl)
+completes_by DiskFailed worlds script read rest written held held_new got split no4 no5 no6 h = absurd (no6 refl)
+completes_by NoMemory worlds script read rest written held held_new got split no4 no5 no6 h = inr refl
+
+never : (number before now code ending : ℕ) → code ≡ ending → CodeCause number before now code → StaysLow before now → ending ≢ number
+never number before now code ending is cause low e = stood before now low (cause.fault (is ∙ e))
+
+pub completes : (code : ℕ) (worlds : List World) (script held : List ℕ) (l1 h1 : Option (List ℕ)) (v0 v1 : View) (read read_now wrote wrote_now stored stored_now : ℕ)
+    → RunsScript worlds l1 h1 v0 v1 script held code → CodeCause 4 read read_now code → CodeCause 5 wrote wrote_now code → CodeCause 6 stored stored_now code
+    → StaysLow read read_now → StaysLow wrote wrote_now → StaysLow stored stored_now → Completes held h1 code (script_outcome worlds script)
+completes code worlds script held l1 h1 v0 v1 read read_now wrote wrote_now stored stored_now r c4 c5 c6 low4 low5 low6 =
     subst (λ (n : ℕ). Completes held h1 n (script_outcome worlds script)) (sym r.status)
-    (completes_by r.ending worlds script r.read r.rest r.written held h1 r.got
-    (λ e. stood read read_now read_is read_low (cause.read_fault (r.status ∙ ap code_of e)))
-    (λ e. stood wrote wrote_now wrote_is wrote_low (cause.write_fault (r.status ∙ ap code_of e)))
-    (r.headline worlds))
+    (completes_by r.ending worlds script r.read r.rest r.written held h1 r.got r.split
+    (never 4 read read_now code _ r.status c4 low4) (never 5 wrote wrote_now code _ r.status c5 low5) (never 6 stored stored_now code _ r.status c6 low6) r.answers)

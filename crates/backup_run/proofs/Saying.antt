@@ -2,52 +2,55 @@
 use Rattle.std.proofs.Common.{◌≡◌, ◌≢◌, ℕ, ◌+◌, ◌-◌, ◌<◌, ◌≤◌, Bool, true, false, ◌||◌, eqb, List, [], ◌∷◌, ◌++◌, length, Some, None, Ok, Err, refl, sym, ap, subst, ◌∙◌, arith}
 use Rattle.std.specs.Prelude.{Result, Option, is_none, IfOk}
 use Rattle.std.proofs.lemmas.Bool.Decides.{nat_tests}
-use Rattle.mvcc_keys.specs.declared.bytes.Memory.{Memory}
+use Rattle.std.proofs.lemmas.List.{append-nil}
+use Rattle.std.proofs.lemmas.Result.{IfOk-weaker}
+use Rattle.outside_world.specs.Disk.{View}
 use Rattle.machine_model.specs.Machine.{World, Machine}
+use Rattle.machine_model.specs.Disks.{IsReady}
 use Rattle.cluster_core.specs.ClusterView.{ClusterState}
 use Rattle.machine_model.specs.Script.{Line, Within, lines, Outcome, outcome, malformed_at, malformed_text, reading_before, machine_after, read_at}
 use Rattle.backup_run.specs.declared.answering.Said.{Said}
-use Rattle.backup_run.specs.Endings.{IsLast}
-use Rattle.backup_run.specs.Run.{At, Here, at_of, StandsAs, Goes, SaysLine, written_before, with_refused, ended_at, outcome_of_lines, outcome_of_rest}
+use Rattle.backup_run.specs.Endings.{IsLast, IsWhole}
+use Rattle.backup_run.specs.Run.{At, Here, at_of, StandsAs, IsHere, IsHereAtLines, Goes, SaysLine, written_before, with_refused, outcome_of_lines, outcome_of_rest}
 use Rattle.backup_run.proofs.Bytes.{rest_beyond, rest_newline, rest_other, rest_too_long, rest_ends, rest_nothing}
 
--- what is the last of a script, whatever bytes come after this one
-abbrev pub IsLastFrom : Here → ℕ → List ℕ → Type 0
-IsLastFrom h b text = (worlds : List World) (m : Option Machine) → StandsAs h.cluster m → (more : List ℕ) → IsLast text (outcome_of_rest worlds (at_of h m) (b ∷ more))
+-- ---- malformed lines
 
-pub last_said : (r : Result Said Memory) (t : List ℕ) (h : Here) (b : ℕ) → IfOk r (λ s. s.text.items ≡ t) → IsLastFrom h b t → IfOk r (λ s. s.malformed ≡ true → IsLastFrom h b s.text.items)
-last_said (Ok s) t h b e last = λ _. subst (IsLastFrom h b) (sym e) last
-last_said (Err m) t h b e last = tt
+is_last : (n column : ℕ) (m : Option Machine) (refused : Bool) (o : Outcome) → o ≡ with_refused refused (malformed_at n column m) → IsLast (malformed_text n column) o
+is_last n column m refused o e = (ap (λ x. x.text) e, ap (λ x. x.malformed) e)
 
-is_last : (n column : ℕ) (refused : Bool) (o : Outcome) → o ≡ with_refused refused (malformed_at n column) → IsLast (malformed_text n column) o
-is_last n column refused o e = (ap (λ x. x.text) e, ap (λ x. x.malformed) e)
+pub last_beyond : (worlds : List World) (a : At) (b : ℕ) (more : List ℕ) → a.room ≡ 0 → length a.pending ≤ 65536 → IsLast (malformed_text a.line (length a.pending + 1)) (outcome_of_rest worlds a (b ∷ more))
+last_beyond worlds a b more is fits = is_last a.line (length a.pending + 1) a.machine a.refused _ (rest_beyond worlds a b more is fits)
 
-pub last_beyond : (h : Here) (b : ℕ) → h.room ≡ 0 → length h.pending ≤ 65536 → IsLastFrom h b (malformed_text h.line (length h.pending + 1))
-last_beyond h b is fits worlds m stands more = let a = at_of h m in is_last a.line (length a.pending + 1) a.refused _ (rest_beyond worlds a b more is fits)
+pub last_too_long : (worlds : List World) (a : At) (b : ℕ) (more : List ℕ) → a.room ≢ 0 → b ≢ 10 → length a.pending ≡ 65536 → IsLast (malformed_text a.line 65537) (outcome_of_rest worlds a (b ∷ more))
+last_too_long worlds a b more some other full = is_last a.line 65537 a.machine a.refused _ (rest_too_long worlds a (a.room - 1) b more (omega arith) (grind (arith, nat_tests)) full)
 
-pub last_too_long : (h : Here) (b : ℕ) → h.room ≢ 0 → b ≢ 10 → length h.pending ≡ 65536 → IsLastFrom h b (malformed_text h.line 65537)
-last_too_long h b some other full worlds m stands more =
-    let a = at_of h m in
-    is_last a.line 65537 a.refused _ (rest_too_long worlds a (a.room - 1) b more (omega arith) (grind (arith, nat_tests)) full)
+-- ---- newlines
+
+-- the session of which a newline was read
+abbrev after_newline : Here → Here
+after_newline h = record h { room = h.room - 1 }
 
 -- a room less, for the lines that come next it is the same
 same_lines : (worlds : List World) (a : At) (k : ℕ) (ls : List Line) → outcome_of_lines worlds (record a { room = k }) ls ≡ outcome_of_lines worlds a ls
 unfolding outcome_of_lines
 same_lines worlds a k ls = refl
 
--- the same of lines
-abbrev pub LinesEnd : Here → List ℕ → Type 0
-LinesEnd h text = (worlds : List World) (m : Option Machine) → StandsAs h.cluster m → (ls : List Line) → IsLast text (outcome_of_lines worlds (at_of h m) (Within h.pending ∷ ls))
+newline_is : (worlds : List World) (h : Here) (m : Option Machine) (b : ℕ) (more : List ℕ) → h.room ≢ 0 → b ≡ 10
+    → outcome_of_rest worlds (at_of h m) (b ∷ more) ≡ outcome_of_lines worlds (at_of (after_newline h) m) (Within h.pending ∷ lines (h.room - 1) more)
+newline_is worlds h m b more some is =
+    let newline : eqb b 10 ≡ true = grind (arith, nat_tests) in
+    rest_newline worlds (at_of h m) (h.room - 1) b more (omega arith) newline ∙ sym (same_lines worlds (at_of h m) (h.room - 1) (Within h.pending ∷ lines (h.room - 1) more))
 
-pub newline_last : (h : Here) (b : ℕ) (r : Result Said Memory) → h.room ≢ 0 → b ≡ 10
-    → IfOk r (λ s. s.malformed ≡ true → LinesEnd (record h { room = h.room - 1 }) s.text.items) → IfOk r (λ s. s.malformed ≡ true → IsLastFrom h b s.text.items)
-newline_last h b (Ok s) some is last = λ t worlds m stands more.
-    let a = at_of h m in
-    let nl : eqb b 10 ≡ true = grind (arith, nat_tests) in
-    let more_lines = lines (a.room - 1) more in
-    let e : outcome_of_rest worlds a (b ∷ more) ≡ outcome_of_lines worlds a (Within a.pending ∷ more_lines) = rest_newline worlds a (a.room - 1) b more (omega arith) nl in
-    subst (λ (o : Outcome). IsLast s.text.items o) (same_lines worlds a (a.room - 1) (Within a.pending ∷ more_lines) ∙ sym e) (last t worlds m stands more_lines)
-newline_last h b (Err e) some is last = tt
+at_lines : (worlds : List World) (h : Here) (v : View) (m : Option Machine) (b : ℕ) (more : List ℕ) → h.room ≢ 0 → b ≡ 10 → IsHere worlds h v m (b ∷ more)
+    → IsHereAtLines worlds (after_newline h) v m (Within h.pending ∷ lines (h.room - 1) more)
+at_lines worlds h v m b more some is here = record { stands = here.stands; ready = subst (λ (o : Outcome). IsReady o.machine v) (newline_is worlds h m b more some is) here.ready }
+
+pub newline_last : {E : Type 0} (worlds : List World) (h : Here) (v : View) (m : Option Machine) (b : ℕ) (more : List ℕ) (r : Result Said E) → h.room ≢ 0 → b ≡ 10 → IsHere worlds h v m (b ∷ more)
+    → ((ls : List Line) → IsHereAtLines worlds (after_newline h) v m (Within h.pending ∷ ls) → IfOk r (λ s. s.malformed ≡ true → IsLast s.text.items (outcome_of_lines worlds (at_of (after_newline h) m) (Within h.pending ∷ ls))))
+    → IfOk r (λ s. s.malformed ≡ true → IsLast s.text.items (outcome_of_rest worlds (at_of h m) (b ∷ more)))
+newline_last worlds h v m b more r some is here last =
+    IfOk-weaker r _ _ (λ s f t. subst (λ (o : Outcome). IsLast s.text.items o) (sym (newline_is worlds h m b more some is)) (f t)) (last (lines (h.room - 1) more) (at_lines worlds h v m b more some is here))
 
 -- after a newline the next line begins
 begins : (worlds : List World) (a : At) (more : List ℕ) → a.pending ≡ [] → outcome_of_rest worlds a more ≡ outcome_of_lines worlds a (lines a.room more)
@@ -55,30 +58,31 @@ unfolding outcome_of_rest
 begins worlds a more e = rw e refl
 
 -- a line and what follows go on, and so do a byte and what follows
-abbrev pub LinesGo : Here → Here → List ℕ → Type 0
-LinesGo h new text = (worlds : List World) (m : Option Machine) → StandsAs h.cluster m → Goes new text (λ ls. outcome_of_lines worlds (at_of h m) (Within h.pending ∷ ls)) (outcome_of_lines worlds)
+abbrev pub LinesGo : List World → Here → Option Machine → Here → List ℕ → Type 0
+LinesGo worlds h m new text = Goes new text (λ ls. outcome_of_lines worlds (at_of h m) (Within h.pending ∷ ls)) (outcome_of_lines worlds)
 
-abbrev pub BytesGo : Here → ℕ → Here → List ℕ → Type 0
-BytesGo h b new text = (worlds : List World) (m : Option Machine) → StandsAs h.cluster m → Goes new text (λ more. outcome_of_rest worlds (at_of h m) (b ∷ more)) (outcome_of_rest worlds)
+abbrev pub BytesGo : List World → Here → Option Machine → ℕ → Here → List ℕ → Type 0
+BytesGo worlds h m b new text = Goes new text (λ xs. outcome_of_rest worlds (at_of h m) (b ∷ xs)) (outcome_of_rest worlds)
 
-pub newline_goes_on : (h new : Here) (b : ℕ) (r : Result Said Memory) → h.room ≢ 0 → b ≡ 10
-    → IfOk r (λ s. s.malformed ≡ false → LinesGo (record h { room = h.room - 1 }) new s.text.items) → IfOk r (λ _. new.pending ≡ []) → new.room ≡ h.room - 1
-    → IfOk r (λ s. s.malformed ≡ false → BytesGo h b new s.text.items)
-newline_goes_on h now b (Ok s) some is goes cleared room = λ t worlds m stands.
-    let g = goes t worlds m stands in
-    record {
-      machine = g.machine;
-      stands = g.stands;
-      goes_on = λ more.
-          let a = at_of h m in
-          let new = at_of now g.machine in
-          let nl : eqb b 10 ≡ true = grind (arith, nat_tests) in
-          let more_lines = lines (a.room - 1) more in
-          let e : outcome_of_rest worlds a (b ∷ more) ≡ outcome_of_lines worlds a (Within a.pending ∷ more_lines) = rest_newline worlds a (a.room - 1) b more (omega arith) nl in
-          let after : outcome_of_rest worlds new more ≡ outcome_of_lines worlds new more_lines = begins worlds new more cleared ∙ ap (λ (k : ℕ). outcome_of_lines worlds new (lines k more)) room in
-          e ∙ sym (same_lines worlds a (a.room - 1) (Within a.pending ∷ more_lines)) ∙ g.goes_on more_lines ∙ ap (written_before s.text.items) (sym after);
-    }
-newline_goes_on h now b (Err e) some is goes cleared room = tt
+bytes_go : (worlds : List World) (h new : Here) (m : Option Machine) (b : ℕ) (text : List ℕ) → h.room ≢ 0 → b ≡ 10 → new.pending ≡ [] → new.room ≡ h.room - 1 → LinesGo worlds (after_newline h) m new text → BytesGo worlds h m b new text
+bytes_go worlds h new m b text some is cleared room g = record {
+  machine = g.machine;
+  stands = g.stands;
+  goes_on = λ more.
+      let after : outcome_of_rest worlds (at_of new g.machine) more ≡ outcome_of_lines worlds (at_of new g.machine) (lines (h.room - 1) more) =
+      begins worlds (at_of new g.machine) more cleared ∙ ap (λ (k : ℕ). outcome_of_lines worlds (at_of new g.machine) (lines k more)) room in
+      newline_is worlds h m b more some is ∙ g.goes_on (lines (h.room - 1) more) ∙ ap (written_before text) (sym after);
+}
+
+pub newline_goes_on : {E : Type 0} (worlds : List World) (h new : Here) (v : View) (m : Option Machine) (b : ℕ) (more : List ℕ) (r : Result Said E) → h.room ≢ 0 → b ≡ 10 → IsHere worlds h v m (b ∷ more)
+    → ((ls : List Line) → IsHereAtLines worlds (after_newline h) v m (Within h.pending ∷ ls) → IfOk r (λ s. s.malformed ≡ false → LinesGo worlds (after_newline h) m new s.text.items))
+    → IfOk r (λ _. new.pending ≡ []) → new.room ≡ h.room - 1
+    → IfOk r (λ s. s.malformed ≡ false → BytesGo worlds h m b new s.text.items)
+newline_goes_on worlds h new v m b more (Ok s) some is here goes cleared room = λ t.
+    bytes_go worlds h new m b s.text.items some is cleared room (goes (lines (h.room - 1) more) (at_lines worlds h v m b more some is here) t)
+newline_goes_on worlds h new v m b more (Err e) some is here goes cleared room = tt
+
+-- ---- other bytes
 
 byte_more : (a : At) (b : ℕ) (pending : List ℕ) → a.room ≢ 0 → b ≢ 10 → pending ≡ a.pending ++ b ∷ []
     → (worlds : List World) (more : List ℕ) → outcome_of_rest worlds a (b ∷ more) ≡ outcome_of_rest worlds (record a { pending = pending; room = a.room - 1 }) more
@@ -87,8 +91,9 @@ byte_more a b pending some other is worlds more =
     let no : eqb b 10 ≡ false = grind (arith, nat_tests) in
     rest_other worlds a (a.room - 1) b more (omega arith) no ∙ rw is refl
 
-pub byte_goes_on : (h : Here) (b : ℕ) (pending text : List ℕ) → text ≡ [] → h.room ≢ 0 → b ≢ 10 → pending ≡ h.pending ++ b ∷ [] → BytesGo h b (record h { pending = pending; room = h.room - 1 }) text
-byte_goes_on h b pending text none some other is = λ worlds m stands.
+pub byte_goes_on : (worlds : List World) (h : Here) (m : Option Machine) (b : ℕ) (pending text : List ℕ) → text ≡ [] → h.room ≢ 0 → b ≢ 10 → pending ≡ h.pending ++ b ∷ [] → StandsAs h.cluster m
+    → BytesGo worlds h m b (record h { pending = pending; room = h.room - 1 }) text
+byte_goes_on worlds h m b pending text none some other is stands =
     record { machine = m; stands = stands; goes_on = λ more. rw none (byte_more (at_of h m) b pending some other is worlds more) }
 
 -- ---- the end of the input
@@ -97,24 +102,36 @@ or_false : (r : Bool) → (r || false) ≡ r
 or_false true = refl
 or_false false = refl
 
-no_lines : (worlds : List World) (a : At) → outcome_of_lines worlds a [] ≡ ended_at a.refused
+at_end : (worlds : List World) (h : Here) (v : View) (m : Option Machine) → 0 < length h.pending → IsHere worlds h v m [] → IsHereAtLines worlds h v m (Within h.pending ∷ [])
+at_end worlds h v m some here = record { stands = here.stands; ready = subst (λ (o : Outcome). IsReady o.machine v) (rest_ends worlds (at_of h m) some) here.ready }
+
+pub end_last : {E : Type 0} (worlds : List World) (h : Here) (v : View) (m : Option Machine) (r : Result Said E) → 0 < length h.pending → IsHere worlds h v m []
+    → ((ls : List Line) → IsHereAtLines worlds h v m (Within h.pending ∷ ls) → IfOk r (λ s. s.malformed ≡ true → IsLast s.text.items (outcome_of_lines worlds (at_of h m) (Within h.pending ∷ ls))))
+    → IfOk r (λ s. s.malformed ≡ true → IsLast s.text.items (outcome_of_rest worlds (at_of h m) []))
+end_last worlds h v m r some here last =
+    IfOk-weaker r _ _ (λ s f t. subst (λ (o : Outcome). IsLast s.text.items o) (sym (rest_ends worlds (at_of h m) some)) (f t)) (last [] (at_end worlds h v m some here))
+
+no_lines : (worlds : List World) (a : At) → outcome_of_lines worlds a [] ≡ record { text = []; refused = a.refused || false; malformed = false; machine = a.machine }
 unfolding outcome_of_lines outcome
-no_lines worlds a = ap ended_at (or_false a.refused)
+no_lines worlds a = refl
 
-pub end_last : (h : Here) (r : Result Said Memory) → 0 < length h.pending → IfOk r (λ s. s.malformed ≡ true → LinesEnd h s.text.items)
-    → IfOk r (λ s. s.malformed ≡ true → (worlds : List World) (m : Option Machine) → StandsAs h.cluster m → IsLast s.text.items (outcome_of_rest worlds (at_of h m) []))
-end_last h (Ok s) some last = λ t worlds m stands. rw (rest_ends worlds (at_of h m) some) (last t worlds m stands [])
-end_last h (Err e) some last = tt
+whole_at : (refused : Bool) (text : List ℕ) (m : Option Machine) (o : Outcome) → o ≡ written_before text (record { text = []; refused = refused || false; malformed = false; machine = m }) → IsWhole refused text o
+whole_at refused text m o is = record {
+  text_is = ap (λ (x : Outcome). x.text) is ∙ append-nil text;
+  refused_is = ap (λ (x : Outcome). x.refused) is ∙ or_false refused;
+  well_formed = ap (λ (x : Outcome). x.malformed) is;
+}
 
-pub end_goes_on : (h new : Here) (r : Result Said Memory) → 0 < length h.pending → IfOk r (λ s. s.malformed ≡ false → LinesGo h new s.text.items)
-    → IfOk r (λ s. s.malformed ≡ false → (worlds : List World) (m : Option Machine) → StandsAs h.cluster m → outcome_of_rest worlds (at_of h m) [] ≡ written_before s.text.items (ended_at new.refused))
-end_goes_on h new (Ok s) some goes = λ t worlds m stands.
-    let g = goes t worlds m stands in
-    rest_ends worlds (at_of h m) some ∙ g.goes_on [] ∙ ap (written_before s.text.items) (no_lines worlds (at_of new g.machine))
-end_goes_on h new (Err e) some goes = tt
+pub end_goes_on : {E : Type 0} (worlds : List World) (h new : Here) (v : View) (m : Option Machine) (r : Result Said E) → 0 < length h.pending → IsHere worlds h v m []
+    → ((ls : List Line) → IsHereAtLines worlds h v m (Within h.pending ∷ ls) → IfOk r (λ s. s.malformed ≡ false → LinesGo worlds h m new s.text.items))
+    → IfOk r (λ s. s.malformed ≡ false → IsWhole new.refused s.text.items (outcome_of_rest worlds (at_of h m) []))
+end_goes_on worlds h new v m r some here goes = IfOk-weaker r _ _ (λ s f t.
+    let g = f t in
+    whole_at new.refused s.text.items g.machine _ (rest_ends worlds (at_of h m) some ∙ g.goes_on [] ∙ ap (written_before s.text.items) (no_lines worlds (at_of new g.machine))))
+    (goes [] (at_end worlds h v m some here))
 
-pub nothing_left : (worlds : List World) (a : At) (text : List ℕ) → length a.pending ≡ 0 → text ≡ [] → outcome_of_rest worlds a [] ≡ written_before text (ended_at a.refused)
-nothing_left worlds a text none is = rw is (rest_nothing worlds a none ∙ ap ended_at (or_false a.refused))
+pub nothing_left : (worlds : List World) (a : At) (text : List ℕ) → length a.pending ≡ 0 → text ≡ [] → IsWhole a.refused text (outcome_of_rest worlds a [])
+nothing_left worlds a text none is = whole_at a.refused text a.machine _ (rw is (rest_nothing worlds a none))
 
 -- ---- the end of a line
 
@@ -129,32 +146,29 @@ or_assoc true b c = refl
 or_assoc false b c = refl
 
 -- what a line says, from each machine for which the cluster stands
-abbrev pub LineSays : Here → Bool → Bool → List ℕ → Type 0
-LineSays h malformed refused text = (worlds : List World) (m : Option Machine) → StandsAs h.cluster m → SaysLine malformed refused text (λ (o : Outcome). reading_before worlds h.line m (read_at m h.pending) o) (λ o. o)
+abbrev pub LineSays : List World → Here → Option Machine → Bool → Bool → List ℕ → Type 0
+LineSays worlds h m malformed refused text = SaysLine malformed refused text (λ (o : Outcome). reading_before worlds h.line m (read_at m h.pending) o) (λ o. o)
 
-pub line_last : (h : Here) (malformed refused : Bool) (text : List ℕ)
-    → LineSays h malformed refused text → malformed ≡ true → LinesEnd h text
+pub line_last : (worlds : List World) (h : Here) (m : Option Machine) (ls : List Line) (malformed refused : Bool) (text : List ℕ)
+    → LineSays worlds h m malformed refused text → malformed ≡ true → IsLast text (outcome_of_lines worlds (at_of h m) (Within h.pending ∷ ls))
 unfolding outcome_of_lines outcome
-line_last h true refused text said t worlds m stands ls =
-    let a = at_of h m in
-    let e = said worlds m stands (outcome worlds (a.line + 1) (machine_after worlds a.machine (read_at a.machine a.pending)) ls) in
-    (ap (λ (o : Outcome). o.text) e, ap (λ (o : Outcome). o.malformed) e)
-line_last h false refused text said t worlds m stands ls = absurd cc
+line_last worlds h m ls true refused text said t =
+    said (outcome worlds (h.line + 1) (machine_after worlds m (read_at m h.pending)) ls)
+line_last worlds h m ls false refused text said t = absurd cc
 
-pub line_goes_on : (h now : Here) (malformed refused : Bool) (text : List ℕ) → LineSays h malformed refused text
-    → ((worlds : List World) (m : Option Machine) → StandsAs h.cluster m → StandsAs now.cluster (machine_after worlds m (read_at m h.pending))) → now.line ≡ h.line + 1 → now.refused ≡ (h.refused || refused)
-    → malformed ≡ false → LinesGo h now text
+pub line_goes_on : (worlds : List World) (h now : Here) (m : Option Machine) (malformed refused : Bool) (text : List ℕ) → LineSays worlds h m malformed refused text
+    → StandsAs now.cluster (machine_after worlds m (read_at m h.pending)) → now.line ≡ h.line + 1 → now.refused ≡ (h.refused || refused)
+    → malformed ≡ false → LinesGo worlds h m now text
 unfolding outcome_of_lines outcome
-line_goes_on h now true refused text said machine line is t worlds m stands = absurd cc
-line_goes_on h now false refused text said machine line is t worlds m stands = record {
+line_goes_on worlds h now m true refused text said machine line is t = absurd cc
+line_goes_on worlds h now m false refused text said machine line is t = record {
   machine = machine_after worlds m (read_at m h.pending);
-  stands = machine worlds m stands;
+  stands = machine;
   goes_on = λ ls.
-      let a = at_of h m in
       let new = at_of now (machine_after worlds m (read_at m h.pending)) in
-      let rest = outcome worlds (a.line + 1) (machine_after worlds a.machine (read_at a.machine a.pending)) ls in
+      let rest = outcome worlds (h.line + 1) (machine_after worlds m (read_at m h.pending)) ls in
       let same : outcome worlds new.line new.machine ls ≡ rest = rw line refl in
-      ap (with_refused a.refused) (said worlds m stands rest)
-      ∙ ap (λ (r : Bool). record { text = text ++ rest.text; refused = r; malformed = rest.malformed }) (or_assoc a.refused refused rest.refused ∙ ap (λ (r : Bool). r || rest.refused) (sym is))
+      ap (with_refused h.refused) (said rest)
+      ∙ ap (λ (r : Bool). record { text = text ++ rest.text; refused = r; malformed = rest.malformed; machine = rest.machine }) (or_assoc h.refused refused rest.refused ∙ ap (λ (r : Bool). r || rest.refused) (sym is))
       ∙ ap (λ (o : Outcome). written_before text (with_refused new.refused o)) (sym same);
 }

@@ -1,21 +1,29 @@
--- Steps of a run, one after another.
-use Rattle.std.proofs.Common.{◌≡◌, ◌≢◌, ℕ, ◌+◌, ◌<◌, Bool, true, false, ◌||◌, ◌==◌, List, [], ◌∷◌, ◌++◌, length, take, drop, get_or, refl, sym, ap, subst, ◌∙◌, inl, inr, arith, append_assoc}
-use Rattle.std.specs.Prelude.{Option}
+-- One byte and one piece: what is written for them, where the run stands then, and what the disk may be left as.
+use Rattle.std.proofs.Common.{◌≡◌, ◌≢◌, inl, inr, ℕ, ◌+◌, ◌<◌, Bool, true, false, ◌||◌, ◌==◌, List, [], ◌∷◌, ◌++◌, length, take, drop, get_or, refl, sym, ap, subst, ◌∙◌, arith, append_assoc}
+use Rattle.std.specs.Prelude.{Option, if◌then◌else◌}
 use Rattle.std.specs.List.{list_any}
 use Rattle.std.proofs.lemmas.Bool.{cases_Bool}
 use Rattle.std.proofs.lemmas.Bool.Decides.{nat_tests}
 use Rattle.std.proofs.lemmas.List.{append-nil, take_more, take-append-drop}
 use Rattle.outside_world.specs.Told.{told_before}
+use Rattle.outside_world.specs.Disk.{View, IsImage, IsKnown}
+use Rattle.outside_world.specs.declared.disk.DiskFault.{DiskFault as Outage}
+use Rattle.outside_world.specs.declared.disk.DiskFault.TheVariants as outage
+use Rattle.outside_world.specs.Moments.{ChangesOnly, LeavesOnly, NoName}
+use Rattle.outside_world.specs.Objects.{Objects}
+use Rattle.outside_world.proofs.Runs.{only_none, only_then, then_call}
 use Rattle.machine_model.specs.Machine.{World, Machine}
 use Rattle.machine_model.specs.Script.{Outcome, whole_lines}
+use Rattle.machine_model.specs.Disks.{IsReady, StandsUntil}
+use Rattle.machine_model.proofs.DiskLaws.{ready_leaves}
 use Rattle.backup_run.specs.declared.stops.Stop.{Stop}
-use Rattle.backup_run.specs.declared.stops.Stop.TheVariants.{Malformed, WriteFault, Memory}
-use Rattle.backup_run.specs.Endings.{Begins, EndsBy, IsLast, WritesPart}
-use Rattle.backup_run.specs.declared.stops.Ending.TheVariants.{Unwritten}
-use Rattle.backup_run.specs.Run.{At, Here, at_of, StandsAs, SessionAt, StandsAt, Fed, EndedIn, AtInputEnd, written_before, ended_at, outcome_of_rest}
+use Rattle.backup_run.specs.declared.stops.Stop.TheVariants.{Malformed, WriteFault, DiskFault, Memory}
+use Rattle.backup_run.specs.declared.stops.Ending.TheVariants.{Unwritten, IllFormed}
+use Rattle.backup_run.specs.Endings.{AnswersFront, Begins, EndsBy, IsComplete, IsLast, IsWhole, WritesPart, done_ending, ending_of, stop_of}
+use Rattle.backup_run.specs.Run.{At, Here, at_of, StandsAs, SessionAt, StandsAt, IsHere, Fed, EndedIn, AtInputEnd, written_before, outcome_of_rest}
 use Rattle.backup_run.proofs.Telling.{told_twice, told_nothing}
 use Rattle.backup_run.proofs.Bytes.{rest_nothing}
-use Rattle.backup_run.proofs.Saying.{IsLastFrom, BytesGo}
+use Rattle.backup_run.proofs.Saying.{BytesGo}
 
 -- ---- texts
 
@@ -33,18 +41,14 @@ pub begins_more : (front text whole rest : List ℕ) → Begins text rest → wh
 begins_more front text whole rest b e =
     (b.0, e ∙ ap (λ (t : List ℕ). front ++ t) b.1 ∙ sym (append_assoc front text b.0))
 
-pub begins_said : (malformed : Bool) (text : List ℕ) (o : Outcome)
-    → (malformed ≡ true → IsLast text o) → (malformed ≡ false → (p : Outcome) × (o ≡ written_before text p)) → Begins text o.text
-begins_said true text o last goes = begins_last text o (last refl)
-begins_said false text o last goes = let g = goes refl in begins_written text o g.0 g.1
-
 written_twice : (a b : List ℕ) (o : Outcome) → written_before a (written_before b o) ≡ written_before (a ++ b) o
-written_twice a b o = ap (λ (t : List ℕ). record { text = t; refused = o.refused; malformed = o.malformed }) (sym (append_assoc a b o.text))
+written_twice a b o = ap (λ (t : List ℕ). record o { text = t }) (sym (append_assoc a b o.text))
 
-ends_after : (stop : Stop) (front text : List ℕ) (o p : Outcome) → o ≡ written_before front p → EndsBy stop text p → EndsBy stop (front ++ text) o
-ends_after Malformed front text o p e h = (ap (λ x. x.text) e ∙ ap (λ (t : List ℕ). front ++ t) h.0, ap (λ x. x.malformed) e ∙ h.1)
-ends_after WriteFault front text o p e h = begins_more front text o.text p.text h (ap (λ x. x.text) e)
-ends_after Memory front text o p e h = begins_more front text o.text p.text h (ap (λ x. x.text) e)
+last_after : (front text : List ℕ) (o p : Outcome) → o ≡ written_before front p → IsLast text p → IsLast (front ++ text) o
+last_after front text o p e h = (ap (λ x. x.text) e ∙ ap (λ (t : List ℕ). front ++ t) h.0, ap (λ x. x.malformed) e ∙ h.1)
+
+begins_after : (front text : List ℕ) (o p : Outcome) → o ≡ written_before front p → Begins text p.text → Begins (front ++ text) o.text
+begins_after front text o p e h = begins_more front text o.text p.text h (ap (λ x. x.text) e)
 
 -- ---- whole lines
 
@@ -80,6 +84,15 @@ lines_other (x ∷ read) b other =
     let same : list_any (λ c. c == 10) (x ∷ (read ++ b ∷ [])) ≡ list_any (λ c. c == 10) (x ∷ read) = any_append (x ∷ read) (b ∷ []) ∙ ap (λ (e : Bool). list_any (λ c. c == 10) (x ∷ read) || (e || false)) f ∙ or_false (list_any (λ c. c == 10) (x ∷ read)) in
     rw (same, lines_other read b other) refl
 
+-- the whole lines of bytes are a front of them
+pub lines_begin : (bs : List ℕ) → Begins (whole_lines bs) bs
+lines_begin [] = ([], refl)
+lines_begin (b ∷ bs) = by (list_any (λ c. c == 10) (b ∷ bs)) (lines_begin bs)
+  where
+    by : (some : Bool) → Begins (whole_lines bs) bs → Begins (if some then b ∷ whole_lines bs else []) (b ∷ bs)
+    by true rest = (rest.0, ap (λ (xs : List ℕ). b ∷ xs) rest.1)
+    by false rest = (b ∷ bs, refl)
+
 -- ---- one byte
 
 -- what a byte says keeps the run where it stands
@@ -101,101 +114,228 @@ byte_stands a new b text worlds whole read front goes cleared quiet s = record {
     elsewhere : b ≢ 10 → front ++ text ≡ (whole (whole_lines (read ++ b ∷ []))).text
     elsewhere other = ap (λ (t : List ℕ). front ++ t) (quiet other) ∙ append-nil front ∙ s.answers ∙ ap (λ (bs : List ℕ). (whole bs).text) (sym (lines_other read b other))
 
-pub fed_byte : (held now : Option (List ℕ)) (a new : Here) (b : ℕ) (malformed : Bool) (text : List ℕ) → malformed ≡ false → now ≡ told_before held text → (malformed ≡ false → BytesGo a b new text)
-    → (malformed ≡ false → b ≡ 10 → new.pending ≡ []) → (malformed ≡ false → b ≢ 10 → text ≡ []) → Fed held now a new (b ∷ [])
-fed_byte held now a new b malformed text fine wrote goes cleared quiet =
-    record {
-      text = text;
-      wrote = wrote;
-      stands = λ worlds whole read front s.
-          let g = goes fine worlds s.machine s.stands in
-          record { machine = g.machine; stands = g.stands; at = byte_stands (at_of a s.machine) (at_of new g.machine) b text worlds whole read front g.goes_on (cleared fine) (quiet fine) s.at };
-    }
+-- ---- one byte, and the disk
+
+-- what is asked of a byte, where the run stands there
+pub here : (worlds : List World) (a : Here) (v : View) (whole : List ℕ → Outcome) (read front xs : List ℕ) → (s : SessionAt worlds a v whole read front xs) → IsHere worlds a v s.machine xs
+here worlds a v whole read front xs s = record { stands = s.stands; ready = subst (λ (o : Outcome). IsReady o.machine v) (s.at.goes_on xs) s.ready }
+
+-- a disk that is left ready, and as a crash may leave it, by whatever script it was ready for
+abbrev pub StaysReady : View → View → Type 0
+StaysReady v0 v1 = (end : Option Machine) → IsReady end v0 → IsReady end v1
+
+abbrev pub LeavesReady : View → View → Type 0
+LeavesReady v0 v1 = (end : Option Machine) → IsReady end v0 → LeavesOnly v0 v1 (StandsUntil end)
+
+pub fed_byte : (held now : Option (List ℕ)) (v0 v1 : View) (a new : Here) (b : ℕ) (text : List ℕ) → now ≡ told_before held text
+    → ((worlds : List World) (m : Option Machine) (more : List ℕ) → IsHere worlds a v0 m (b ∷ more) → BytesGo worlds a m b new text)
+    → (b ≡ 10 → new.pending ≡ []) → (b ≢ 10 → text ≡ []) → StaysReady v0 v1 → LeavesReady v0 v1 → ChangesOnly NoName NoName v0 v1 → Fed held now v0 v1 a new (b ∷ [])
+fed_byte held now v0 v1 a new b text wrote goes cleared quiet ready leaves changes = record {
+  text = text;
+  wrote = wrote;
+  stands = λ worlds whole read front more s.
+      let g = goes worlds s.machine more (here worlds a v0 whole read front (b ∷ more) s) in
+      record {
+        machine = g.machine;
+        stands = g.stands;
+        at = byte_stands (at_of a s.machine) (at_of new g.machine) b text worlds whole read front g.goes_on cleared quiet s.at;
+        ready = subst (λ (bs : List ℕ). IsReady (whole bs).machine v1) (sym (append_assoc read (b ∷ []) more)) (ready _ s.ready);
+      };
+  leaves = λ worlds whole read front more s. leaves _ s.ready;
+  changes = changes;
+}
+
+-- the run ends in a byte, of which this much was written
+ended_by : (stop : Stop) (held now : Option (List ℕ)) (v0 v1 : View) (a : Here) (b : ℕ) (text : List ℕ) → now ≡ told_before held text
+    → ((worlds : List World) (whole : List ℕ → Outcome) (read front more : List ℕ) → (s : SessionAt worlds a v0 whole read front (b ∷ more)) → (o : Outcome) → whole ((read ++ b ∷ []) ++ more) ≡ written_before front o
+    → o ≡ outcome_of_rest worlds (at_of a s.machine) (b ∷ more) → EndsBy stop whole (read ++ b ∷ []) (front ++ text) more)
+    → (IsComplete (ending_of stop) → StaysReady v0 v1) → LeavesReady v0 v1 → ChangesOnly NoName NoName v0 v1 → EndedIn held now v0 v1 a (b ∷ []) stop
+ended_by stop held now v0 v1 a b text wrote ends ready leaves changes = record {
+  text = text;
+  wrote = wrote;
+  ends = λ worlds whole read front more s.
+      ends worlds whole read front more s _ (ap whole (append_assoc read (b ∷ []) more) ∙ s.at.goes_on (b ∷ more)) refl;
+  leaves = λ worlds whole read front more s. leaves _ s.ready;
+  ready = λ complete worlds whole read front more s. ready complete _ s.ready;
+  changes = changes;
+}
 
 -- a write that failed took a front of what the byte says
-pub ended_by_fault : (held now : Option (List ℕ)) (a new : Here) (b : ℕ) (malformed : Bool) (text : List ℕ) → WritesPart held now text
-    → (malformed ≡ true → IsLastFrom a b text) → (malformed ≡ false → BytesGo a b new text) → EndedIn held now a (b ∷ []) WriteFault
-ended_by_fault held now a new b malformed text part last goes = record {
-  text = take part.0 text;
-  wrote = part.1;
-  ends = λ worlds whole read front s more.
-      let o = outcome_of_rest worlds (at_of a s.machine) (b ∷ more) in
-      let begins = begins_part part.0 text o.text (begins_said malformed text o (λ is. last is worlds s.machine s.stands more) (λ is. let g = goes is worlds s.machine s.stands in (outcome_of_rest worlds (at_of new g.machine) more, g.goes_on more))) in
-      ends_after WriteFault front (take part.0 text) (whole ((read ++ b ∷ []) ++ more)) o (ap whole (append_assoc read (b ∷ []) more) ∙ s.at.goes_on (b ∷ more)) begins;
-}
+pub ended_by_fault : (held now : Option (List ℕ)) (v0 v1 : View) (a new : Here) (b : ℕ) (malformed : Bool) (text : List ℕ) → WritesPart held now text
+    → ((worlds : List World) (m : Option Machine) (more : List ℕ) → IsHere worlds a v0 m (b ∷ more) → malformed ≡ true → IsLast text (outcome_of_rest worlds (at_of a m) (b ∷ more)))
+    → ((worlds : List World) (m : Option Machine) (more : List ℕ) → IsHere worlds a v0 m (b ∷ more) → malformed ≡ false → BytesGo worlds a m b new text)
+    → LeavesReady v0 v1 → ChangesOnly NoName NoName v0 v1 → EndedIn held now v0 v1 a (b ∷ []) WriteFault
+ended_by_fault held now v0 v1 a new b malformed text part last goes leaves changes = ended_by WriteFault held now v0 v1 a b (take part.0 text) part.1
+    (λ worlds whole read front more s o is o_is.
+    let at = here worlds a v0 whole read front (b ∷ more) s in
+    begins_after front (take part.0 text) _ o is (subst (λ (x : Outcome). Begins (take part.0 text) x.text) (sym o_is) (said malformed worlds s.machine more (last worlds s.machine more at) (goes worlds s.machine more at))))
+    (λ no. absurd no) leaves changes
+  where
+    said : (bad : Bool) (worlds : List World) (m : Option Machine) (more : List ℕ) → (bad ≡ true → IsLast text (outcome_of_rest worlds (at_of a m) (b ∷ more))) → (bad ≡ false → BytesGo worlds a m b new text)
+        → Begins (take part.0 text) (outcome_of_rest worlds (at_of a m) (b ∷ more)).text
+    said true worlds m more is_last _ =
+        let o = outcome_of_rest worlds (at_of a m) (b ∷ more) in
+        begins_part part.0 text o.text (begins_last text o (is_last refl))
+    said false worlds m more _ goes_on =
+        let o = outcome_of_rest worlds (at_of a m) (b ∷ more) in
+        let g = goes_on refl in
+        begins_part part.0 text o.text (begins_written text o (outcome_of_rest worlds (at_of new g.machine) more) (g.goes_on more))
 
--- where memory was wanting nothing was written
-pub ended_wanting : (held : Option (List ℕ)) (a : Here) (b : ℕ) → EndedIn held held a (b ∷ []) Memory
-ended_wanting held a b = record {
-  text = [];
-  wrote = sym (told_nothing held);
-  ends = λ worlds whole read front s more.
-      let o = outcome_of_rest worlds (at_of a s.machine) (b ∷ more) in
-      ends_after Memory front [] (whole ((read ++ b ∷ []) ++ more)) o (ap whole (append_assoc read (b ∷ []) more) ∙ s.at.goes_on (b ∷ more)) (o.text, refl);
-}
+-- the line is malformed
+pub ended_malformed : (held now : Option (List ℕ)) (v0 v1 : View) (a : Here) (b : ℕ) (text : List ℕ) → now ≡ told_before held text
+    → ((worlds : List World) (m : Option Machine) (more : List ℕ) → IsHere worlds a v0 m (b ∷ more) → IsLast text (outcome_of_rest worlds (at_of a m) (b ∷ more)))
+    → StaysReady v0 v1 → LeavesReady v0 v1 → ChangesOnly NoName NoName v0 v1 → EndedIn held now v0 v1 a (b ∷ []) Malformed
+ended_malformed held now v0 v1 a b text wrote last ready leaves changes = ended_by Malformed held now v0 v1 a b text wrote
+    (λ worlds whole read front more s o is o_is. last_after front text _ o is (subst (IsLast text) (sym o_is) (last worlds s.machine more (here worlds a v0 whole read front (b ∷ more) s))))
+    (λ complete. ready) leaves changes
+
+-- a line that gave no reply: nothing was written
+pub ended_outage : (fault : Outage) (held : Option (List ℕ)) (v0 v1 : View) (a : Here) (b : ℕ) → LeavesReady v0 v1 → ChangesOnly NoName NoName v0 v1 → EndedIn held held v0 v1 a (b ∷ []) (stop_of fault)
+ended_outage outage.Failed held v0 v1 a b leaves changes = ended_by DiskFault held held v0 v1 a b [] (sym (told_nothing held))
+    (λ worlds whole read front more s o is o_is. (
+      record {
+        front = whole_lines read;
+        begins = (let l = lines_begin read in (l.0 ++ b ∷ [], ap (λ (xs : List ℕ). xs ++ b ∷ []) l.1 ∙ append_assoc (whole_lines read) l.0 (b ∷ [])));
+        text_is = append-nil front ∙ s.at.answers;
+      },
+      begins_after front [] _ o is (o.text, refl),
+    ))
+    (λ no. absurd no) leaves changes
+ended_outage outage.Memory held v0 v1 a b leaves changes = ended_by Memory held held v0 v1 a b [] (sym (told_nothing held))
+    (λ worlds whole read front more s o is o_is. begins_after front [] _ o is (o.text, refl))
+    (λ no. absurd no) leaves changes
 
 -- ---- pieces
 
-pub fed_nothing : (held : Option (List ℕ)) (a : Here) → Fed held held a a []
-fed_nothing held a = record {
+-- the premise is the disk's law `only_now`
+pub fed_nothing : (held : Option (List ℕ)) (v : View) (a : Here) → (IsKnown v → (image : Objects) → v.left_since v.moment image → IsImage v image) → Fed held held v v a a []
+fed_nothing held v a only = record {
   text = [];
   wrote = sym (told_nothing held);
-  stands = λ worlds whole read front s. subst (λ (f : List ℕ). SessionAt worlds a whole (read ++ []) f) (sym (append-nil front)) (subst (λ (r : List ℕ). SessionAt worlds a whole r front) (sym (append-nil read)) s);
+  stands = λ worlds whole read front more s. subst (λ (f : List ℕ). SessionAt worlds a v whole (read ++ []) f more) (sym (append-nil front)) (subst (λ (r : List ℕ). SessionAt worlds a v whole r front more) (sym (append-nil read)) s);
+  leaves = λ worlds whole read front more s. ready_leaves _ v only s.ready;
+  changes = only_none v;
 }
 
-pub fed_fed : (h0 h1 h2 : Option (List ℕ)) (a b c : Here) (p q : List ℕ) → Fed h0 h1 a b p → Fed h1 h2 b c q → Fed h0 h2 a c (p ++ q)
-fed_fed h0 h1 h2 a b c p q t u = record {
+-- what a crash leaves in the second of two pieces, said of the bytes of both
+second_leaves : (v1 v2 : View) (whole : List ℕ → Outcome) (read p q more : List ℕ) → LeavesOnly v1 v2 (StandsUntil (whole ((read ++ p) ++ (q ++ more))).machine) → LeavesOnly v1 v2 (StandsUntil (whole (read ++ ((p ++ q) ++ more))).machine)
+second_leaves v1 v2 whole read p q more l = subst (λ (bs : List ℕ). LeavesOnly v1 v2 (StandsUntil (whole bs).machine)) (append_assoc read p (q ++ more) ∙ ap (λ (bs : List ℕ). read ++ bs) (sym (append_assoc p q more))) l
+
+first_leaves : (v0 v1 : View) (whole : List ℕ → Outcome) (read p q more : List ℕ) → LeavesOnly v0 v1 (StandsUntil (whole (read ++ (p ++ (q ++ more)))).machine) → LeavesOnly v0 v1 (StandsUntil (whole (read ++ ((p ++ q) ++ more))).machine)
+first_leaves v0 v1 whole read p q more l = subst (λ (bs : List ℕ). LeavesOnly v0 v1 (StandsUntil (whole (read ++ bs)).machine)) (sym (append_assoc p q more)) l
+
+-- the run stands before both pieces, and so before the first
+before_both : (worlds : List World) (a : Here) (v : View) (whole : List ℕ → Outcome) (read front p q more : List ℕ) → SessionAt worlds a v whole read front ((p ++ q) ++ more) → SessionAt worlds a v whole read front (p ++ (q ++ more))
+before_both worlds a v whole read front p q more s = subst (SessionAt worlds a v whole read front) (append_assoc p q more) s
+
+pub fed_fed : (h0 h1 h2 : Option (List ℕ)) (v0 v1 v2 : View) (a b c : Here) (p q : List ℕ) → Fed h0 h1 v0 v1 a b p → Fed h1 h2 v1 v2 b c q → Fed h0 h2 v0 v2 a c (p ++ q)
+fed_fed h0 h1 h2 v0 v1 v2 a b c p q t u = record {
   text = t.text ++ u.text;
   wrote = u.wrote ∙ ap (λ o. told_before o u.text) t.wrote ∙ told_twice h0 t.text u.text;
-  stands = λ worlds whole read front s.
-      let w = u.stands worlds whole (read ++ p) (front ++ t.text) (t.stands worlds whole read front s) in
-      subst (λ (f : List ℕ). SessionAt worlds c whole (read ++ (p ++ q)) f) (append_assoc front t.text u.text)
-      (subst (λ (r : List ℕ). SessionAt worlds c whole r ((front ++ t.text) ++ u.text)) (append_assoc read p q) w);
+  stands = λ worlds whole read front more s.
+      let w = u.stands worlds whole (read ++ p) (front ++ t.text) more (t.stands worlds whole read front (q ++ more) (before_both worlds a v0 whole read front p q more s)) in
+      subst (λ (f : List ℕ). SessionAt worlds c v2 whole (read ++ (p ++ q)) f more) (append_assoc front t.text u.text)
+      (subst (λ (r : List ℕ). SessionAt worlds c v2 whole r ((front ++ t.text) ++ u.text) more) (append_assoc read p q) w);
+  leaves = λ worlds whole read front more s.
+      let at = before_both worlds a v0 whole read front p q more s in
+      then_call (first_leaves v0 v1 whole read p q more (t.leaves worlds whole read front (q ++ more) at))
+      (second_leaves v1 v2 whole read p q more (u.leaves worlds whole (read ++ p) (front ++ t.text) more (t.stands worlds whole read front (q ++ more) at))) (λ image stands. stands);
+  changes = only_then t.changes u.changes;
 }
 
-pub fed_ended : (h0 h1 h2 : Option (List ℕ)) (a b : Here) (p q : List ℕ) (stop : Stop) → Fed h0 h1 a b p → EndedIn h1 h2 b q stop → EndedIn h0 h2 a (p ++ q) stop
-fed_ended h0 h1 h2 a b p q stop t u = record {
+pub fed_ended : (h0 h1 h2 : Option (List ℕ)) (v0 v1 v2 : View) (a b : Here) (p q : List ℕ) (stop : Stop) → Fed h0 h1 v0 v1 a b p → EndedIn h1 h2 v1 v2 b q stop → EndedIn h0 h2 v0 v2 a (p ++ q) stop
+fed_ended h0 h1 h2 v0 v1 v2 a b p q stop t u = record {
   text = t.text ++ u.text;
   wrote = u.wrote ∙ ap (λ o. told_before o u.text) t.wrote ∙ told_twice h0 t.text u.text;
-  ends = λ worlds whole read front s more.
-      let w = u.ends worlds whole (read ++ p) (front ++ t.text) (t.stands worlds whole read front s) more in
-      subst (λ (f : List ℕ). EndsBy stop f (whole ((read ++ (p ++ q)) ++ more))) (append_assoc front t.text u.text)
-      (subst (λ (r : List ℕ). EndsBy stop ((front ++ t.text) ++ u.text) (whole (r ++ more))) (append_assoc read p q) w);
+  ends = λ worlds whole read front more s.
+      let w = u.ends worlds whole (read ++ p) (front ++ t.text) more (t.stands worlds whole read front (q ++ more) (before_both worlds a v0 whole read front p q more s)) in
+      subst (λ (f : List ℕ). EndsBy stop whole (read ++ (p ++ q)) f more) (append_assoc front t.text u.text)
+      (subst (λ (r : List ℕ). EndsBy stop whole r ((front ++ t.text) ++ u.text) more) (append_assoc read p q) w);
+  leaves = λ worlds whole read front more s.
+      let at = before_both worlds a v0 whole read front p q more s in
+      then_call (first_leaves v0 v1 whole read p q more (t.leaves worlds whole read front (q ++ more) at))
+      (second_leaves v1 v2 whole read p q more (u.leaves worlds whole (read ++ p) (front ++ t.text) more (t.stands worlds whole read front (q ++ more) at))) (λ image stands. stands);
+  ready = λ complete worlds whole read front more s.
+      subst (λ (bs : List ℕ). IsReady (whole bs).machine v2) (append_assoc read p (q ++ more) ∙ ap (λ (bs : List ℕ). read ++ bs) (sym (append_assoc p q more)))
+      (u.ready complete worlds whole (read ++ p) (front ++ t.text) more (t.stands worlds whole read front (q ++ more) (before_both worlds a v0 whole read front p q more s)));
+  changes = only_then t.changes u.changes;
 }
+
+front_longer : (whole : List ℕ → Outcome) (read rest text : List ℕ) → AnswersFront whole read text → AnswersFront whole (read ++ rest) text
+front_longer whole read rest text a = record { front = a.front; begins = (a.begins.0 ++ rest, ap (λ (r : List ℕ). r ++ rest) a.begins.1 ∙ append_assoc a.front a.begins.0 rest); text_is = a.text_is }
+
+ends_longer : (stop : Stop) (whole : List ℕ → Outcome) (read rest text more : List ℕ) → EndsBy stop whole read text (rest ++ more) → EndsBy stop whole (read ++ rest) text more
+ends_longer Malformed whole read rest text more h = subst (λ (bs : List ℕ). IsLast text (whole bs)) (sym (append_assoc read rest more)) h
+ends_longer WriteFault whole read rest text more h = subst (λ (bs : List ℕ). Begins text (whole bs).text) (sym (append_assoc read rest more)) h
+ends_longer DiskFault whole read rest text more h = (front_longer whole read rest text h.0, subst (λ (bs : List ℕ). Begins text (whole bs).text) (sym (append_assoc read rest more)) h.1)
+ends_longer Memory whole read rest text more h = subst (λ (bs : List ℕ). Begins text (whole bs).text) (sym (append_assoc read rest more)) h
 
 -- what comes after the byte in its piece wasn't looked at
-pub ended_more : (h0 h1 : Option (List ℕ)) (a : Here) (p rest : List ℕ) (stop : Stop) → EndedIn h0 h1 a p stop → EndedIn h0 h1 a (p ++ rest) stop
-ended_more h0 h1 a p rest stop t = record {
+pub ended_more : (h0 h1 : Option (List ℕ)) (v0 v1 : View) (a : Here) (p rest : List ℕ) (stop : Stop) → EndedIn h0 h1 v0 v1 a p stop → EndedIn h0 h1 v0 v1 a (p ++ rest) stop
+ended_more h0 h1 v0 v1 a p rest stop t = record {
   text = t.text;
   wrote = t.wrote;
-  ends = λ worlds whole read front s more.
-      subst (λ (bs : List ℕ). EndsBy stop (front ++ t.text) (whole bs)) (sym (append_assoc (read ++ p) rest more) ∙ ap (λ (r : List ℕ). r ++ more) (append_assoc read p rest))
-      (t.ends worlds whole read front s (rest ++ more));
+  ends = λ worlds whole read front more s.
+      subst (λ (r : List ℕ). EndsBy stop whole r (front ++ t.text) more) (append_assoc read p rest)
+      (ends_longer stop whole (read ++ p) rest (front ++ t.text) more (t.ends worlds whole read front (rest ++ more) (before_both worlds a v0 whole read front p rest more s)));
+  leaves = λ worlds whole read front more s. first_leaves v0 v1 whole read p rest more (t.leaves worlds whole read front (rest ++ more) (before_both worlds a v0 whole read front p rest more s));
+  ready = λ complete worlds whole read front more s.
+      subst (λ (bs : List ℕ). IsReady (whole (read ++ bs)).machine v1) (sym (append_assoc p rest more)) (t.ready complete worlds whole read front (rest ++ more) (before_both worlds a v0 whole read front p rest more s));
+  changes = t.changes;
 }
 
 one_more : (piece : List ℕ) (i b : ℕ) → i < length piece → b ≡ get_or piece i 0 → take (i + 1) piece ≡ take i piece ++ b ∷ []
 one_more piece i b l at = take_more piece i 0 l ∙ ap (λ (x : ℕ). take i piece ++ x ∷ []) (sym at)
 
-pub fed_next : (h0 h1 h2 : Option (List ℕ)) (a b c : Here) (piece : List ℕ) (i byte : ℕ) → i < length piece → byte ≡ get_or piece i 0
-    → Fed h0 h1 a b (take i piece) → Fed h1 h2 b c (byte ∷ []) → Fed h0 h2 a c (take (i + 1) piece)
-fed_next h0 h1 h2 a b c piece i byte l at t u = subst (λ (p : List ℕ). Fed h0 h2 a c p) (sym (one_more piece i byte l at)) (fed_fed h0 h1 h2 a b c (take i piece) (byte ∷ []) t u)
+pub fed_next : (h0 h1 h2 : Option (List ℕ)) (v0 v1 v2 : View) (a b c : Here) (piece : List ℕ) (i byte : ℕ) → i < length piece → byte ≡ get_or piece i 0
+    → Fed h0 h1 v0 v1 a b (take i piece) → Fed h1 h2 v1 v2 b c (byte ∷ []) → Fed h0 h2 v0 v2 a c (take (i + 1) piece)
+fed_next h0 h1 h2 v0 v1 v2 a b c piece i byte l at t u = subst (λ (p : List ℕ). Fed h0 h2 v0 v2 a c p) (sym (one_more piece i byte l at)) (fed_fed h0 h1 h2 v0 v1 v2 a b c (take i piece) (byte ∷ []) t u)
 
-pub ended_next : (h0 h1 h2 : Option (List ℕ)) (a b : Here) (piece : List ℕ) (i byte : ℕ) (stop : Stop) → i < length piece → byte ≡ get_or piece i 0
-    → Fed h0 h1 a b (take i piece) → EndedIn h1 h2 b (byte ∷ []) stop → EndedIn h0 h2 a piece stop
-ended_next h0 h1 h2 a b piece i byte stop l at t u =
-    let here = fed_ended h0 h1 h2 a b (take i piece) (byte ∷ []) stop t u in
+pub ended_next : (h0 h1 h2 : Option (List ℕ)) (v0 v1 v2 : View) (a b : Here) (piece : List ℕ) (i byte : ℕ) (stop : Stop) → i < length piece → byte ≡ get_or piece i 0
+    → Fed h0 h1 v0 v1 a b (take i piece) → EndedIn h1 h2 v1 v2 b (byte ∷ []) stop → EndedIn h0 h2 v0 v2 a piece stop
+ended_next h0 h1 h2 v0 v1 v2 a b piece i byte stop l at t u =
+    let stopped = fed_ended h0 h1 h2 v0 v1 v2 a b (take i piece) (byte ∷ []) stop t u in
     let all : (take i piece ++ byte ∷ []) ++ drop (i + 1) piece ≡ piece = ap (λ (p : List ℕ). p ++ drop (i + 1) piece) (sym (one_more piece i byte l at)) ∙ take-append-drop (i + 1) piece in
-    subst (λ (p : List ℕ). EndedIn h0 h2 a p stop) all (ended_more h0 h2 a (take i piece ++ byte ∷ []) (drop (i + 1) piece) stop here)
+    subst (λ (p : List ℕ). EndedIn h0 h2 v0 v2 a p stop) all (ended_more h0 h2 v0 v2 a (take i piece ++ byte ∷ []) (drop (i + 1) piece) stop stopped)
 
 -- ---- the end of the input
 
-pub end_by_fault : (held now : Option (List ℕ)) (a : Here) (refused malformed : Bool) (text : List ℕ) → WritesPart held now text
-    → (malformed ≡ true → (worlds : List World) (m : Option Machine) → StandsAs a.cluster m → IsLast text (outcome_of_rest worlds (at_of a m) []))
-    → (malformed ≡ false → (worlds : List World) (m : Option Machine) → StandsAs a.cluster m → outcome_of_rest worlds (at_of a m) [] ≡ written_before text (ended_at refused)) → AtInputEnd held now a Unwritten
-end_by_fault held now a refused malformed text part last goes = record {
+-- a write that failed took a front of what the end of the input says
+pub end_by_fault : (held now : Option (List ℕ)) (v0 v1 : View) (a : Here) (refused malformed : Bool) (text : List ℕ) → WritesPart held now text
+    → ((worlds : List World) (m : Option Machine) → IsHere worlds a v0 m [] → malformed ≡ true → IsLast text (outcome_of_rest worlds (at_of a m) []))
+    → ((worlds : List World) (m : Option Machine) → IsHere worlds a v0 m [] → malformed ≡ false → IsWhole refused text (outcome_of_rest worlds (at_of a m) []))
+    → LeavesReady v0 v1 → ChangesOnly NoName NoName v0 v1 → AtInputEnd held now v0 v1 a Unwritten
+end_by_fault held now v0 v1 a refused malformed text part last goes leaves changes = record {
   text = take part.0 text;
   wrote = part.1;
-  answers = λ worlds m stands.
-      let o = outcome_of_rest worlds (at_of a m) [] in
-      begins_part part.0 text o.text (begins_said malformed text o (λ is. last is worlds m stands) (λ is. (ended_at refused, goes is worlds m stands)));
+  answers = λ worlds m at. begins_part part.0 text _ (said malformed (outcome_of_rest worlds (at_of a m) []) (last worlds m at) (goes worlds m at));
+  leaves = λ worlds m at. leaves _ at.ready;
+  ready = λ no. absurd no;
+  changes = changes;
 }
+  where
+    said : (bad : Bool) (o : Outcome) → (bad ≡ true → IsLast text o) → (bad ≡ false → IsWhole refused text o) → Begins text o.text
+    said true o is_last _ = begins_last text o (is_last refl)
+    said false o _ goes_on = ([], (goes_on refl).text_is ∙ sym (append-nil text))
+
+pub end_malformed : (held now : Option (List ℕ)) (v0 v1 : View) (a : Here) (text : List ℕ) → now ≡ told_before held text
+    → ((worlds : List World) (m : Option Machine) → IsHere worlds a v0 m [] → IsLast text (outcome_of_rest worlds (at_of a m) []))
+    → StaysReady v0 v1 → LeavesReady v0 v1 → ChangesOnly NoName NoName v0 v1 → AtInputEnd held now v0 v1 a IllFormed
+end_malformed held now v0 v1 a text wrote last ready leaves changes = record {
+  text = text;
+  wrote = wrote;
+  answers = last;
+  leaves = λ worlds m at. leaves _ at.ready;
+  ready = λ complete worlds m at. ready _ at.ready;
+  changes = changes;
+}
+
+pub end_outage : (fault : Outage) (held : Option (List ℕ)) (v0 v1 : View) (a : Here) → LeavesReady v0 v1 → ChangesOnly NoName NoName v0 v1 → AtInputEnd held held v0 v1 a (ending_of (stop_of fault))
+end_outage outage.Failed held v0 v1 a leaves changes = record { text = []; wrote = sym (told_nothing held); answers = λ worlds m at. refl; leaves = λ worlds m at. leaves _ at.ready; ready = λ no. absurd no; changes = changes }
+end_outage outage.Memory held v0 v1 a leaves changes = record { text = []; wrote = sym (told_nothing held); answers = λ worlds m at. ((outcome_of_rest worlds (at_of a m) []).text, refl); leaves = λ worlds m at. leaves _ at.ready; ready = λ no. absurd no; changes = changes }
+
+pub end_done : (held now : Option (List ℕ)) (v0 v1 : View) (a : Here) (refused : Bool) (text : List ℕ) → now ≡ told_before held text
+    → ((worlds : List World) (m : Option Machine) → IsHere worlds a v0 m [] → IsWhole refused text (outcome_of_rest worlds (at_of a m) []))
+    → StaysReady v0 v1 → LeavesReady v0 v1 → ChangesOnly NoName NoName v0 v1 → AtInputEnd held now v0 v1 a (done_ending refused)
+end_done held now v0 v1 a true text wrote goes ready leaves changes = record { text = text; wrote = wrote; answers = goes; leaves = λ worlds m at. leaves _ at.ready; ready = λ complete worlds m at. ready _ at.ready; changes = changes }
+end_done held now v0 v1 a false text wrote goes ready leaves changes = record { text = text; wrote = wrote; answers = goes; leaves = λ worlds m at. leaves _ at.ready; ready = λ complete worlds m at. ready _ at.ready; changes = changes }

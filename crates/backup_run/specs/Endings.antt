@@ -1,14 +1,19 @@
 -- How a run ends, and what each ending says of the script and of what was written.
-use Rattle.std.specs.Prelude.{◌≡◌, ◌≢◌, ◌⊎◌, codes, ℕ, ◌≤◌, Bool, true, false, List, [], ◌∷◌, ◌++◌, take, Option, Some, Result, Ok, Err}
+use Rattle.std.specs.Prelude.{◌≡◌, ◌≢◌, ◌⊎◌, codes, ℕ, ◌<◌, ◌≤◌, ◌-◌, ◌^◌, Bool, true, false, List, [], ◌∷◌, ◌++◌, take, Option, Some, Result, Ok, Err}
 use Rattle.std.specs.Str.{bytes_eq}
-use Rattle.outside_world.specs.Told.{told_before, AtEnd}
+use Rattle.outside_world.specs.Told.{told_before}
 use Rattle.outside_world.specs.Causes.{Rose}
+use Rattle.outside_world.specs.Disk.{View}
+use Rattle.outside_world.specs.declared.disk.DiskFault.{DiskFault as Outage}
+use Rattle.outside_world.specs.declared.disk.DiskFault.TheVariants as disk
+use Rattle.outside_world.specs.Moments.{LeavesOnly}
 use Rattle.machine_model.specs.Machine.{World}
+use Rattle.machine_model.specs.Disks.{IsReady, StandsUntil}
 use Rattle.machine_model.specs.Script.{Outcome, script_outcome, whole_lines}
 use Rattle.backup_run.specs.declared.stops.Ending.{Ending}
-use Rattle.backup_run.specs.declared.stops.Ending.TheVariants.{AllDone, SomeRefused, IllFormed, ReadFault, Unwritten, NoMemory}
+use Rattle.backup_run.specs.declared.stops.Ending.TheVariants.{AllDone, SomeRefused, IllFormed, ReadFault, Unwritten, DiskFailed, NoMemory}
 use Rattle.backup_run.specs.declared.stops.Stop.{Stop}
-use Rattle.backup_run.specs.declared.stops.Stop.TheVariants.{Malformed, WriteFault, Memory}
+use Rattle.backup_run.specs.declared.stops.Stop.TheVariants.{Malformed, WriteFault, DiskFault, Memory}
 
 -- a text begins with another
 abbrev pub Begins : List ℕ → List ℕ → Type 0
@@ -22,15 +27,29 @@ WritesPart old new text = (n : ℕ) × (new ≡ told_before old (take n text))
 abbrev pub IsLast : List ℕ → Outcome → Type 0
 IsLast text o = (o.text ≡ text) × (o.malformed ≡ true)
 
--- what a stop says of the text so far and of the outcome of all bytes
-abbrev pub EndsBy : Stop → List ℕ → Outcome → Type 0
-EndsBy Malformed text o = IsLast text o
-EndsBy WriteFault text o = Begins text o.text
-EndsBy Memory text o = Begins text o.text
+-- this text is all that is answered to a front of the bytes that were read
+pub record AnswersFront (whole : List ℕ → Outcome) (read text : List ℕ) : Type 0 where
+  pub front : List ℕ
+  pub begins : Begins front read
+  pub text_is : text ≡ (whole front).text
+
+-- what a stop says of the bytes that were read, the text so far, and the bytes that were to come. Where the disk failed, the text is all
+-- that is answered to the commands before
+abbrev pub EndsBy : Stop → (List ℕ → Outcome) → List ℕ → List ℕ → List ℕ → Type 0
+EndsBy Malformed whole read text more = IsLast text (whole (read ++ more))
+EndsBy WriteFault whole read text more = Begins text (whole (read ++ more)).text
+EndsBy DiskFault whole read text more = AnswersFront whole read text × Begins text (whole (read ++ more)).text
+EndsBy Memory whole read text more = Begins text (whole (read ++ more)).text
+
+-- why a line gave no reply
+abbrev pub stop_of : Outage → Stop
+stop_of disk.Failed = DiskFault
+stop_of disk.Memory = Memory
 
 abbrev pub ending_of : Stop → Ending
 ending_of Malformed = IllFormed
 ending_of WriteFault = Unwritten
+ending_of DiskFault = DiskFailed
 ending_of Memory = NoMemory
 
 -- a run that read all: some reply was a refusal, or none was
@@ -45,25 +64,28 @@ code_of SomeRefused = 1
 code_of IllFormed = 3
 code_of ReadFault = 4
 code_of Unwritten = 5
+code_of DiskFailed = 6
 code_of NoMemory = 7
 
 -- ---- what an ending says
 
 -- the outcome is this text with no malformed line, and some reply is a refusal or none is
-abbrev pub IsWhole : Bool → List ℕ → Outcome → Type 0
-IsWhole refused text o = o ≡ record { text = text; refused = refused; malformed = false }
+pub record IsWhole (refused : Bool) (text : List ℕ) (o : Outcome) : Type 0 where
+  pub text_is : o.text ≡ text
+  pub refused_is : o.refused ≡ refused
+  pub well_formed : o.malformed ≡ false
 
--- what an ending says of the bytes that were read and of what was written for them, where `left` is what the
--- source tells as left, and `whole` is the outcome of all bytes. All done: the input is at its end, and all replies
--- were written. Ill-formed: all up to the malformed line was, with its own. A read fault: the replies to the lines
--- that were read whole. Else a front.
-abbrev pub Answers : Ending → (List ℕ → Outcome) → Option (List ℕ) → List ℕ → List ℕ → Type 0
-Answers AllDone whole left read written = AtEnd left × IsWhole false written (whole read)
-Answers SomeRefused whole left read written = AtEnd left × IsWhole true written (whole read)
-Answers IllFormed whole left read written = (more : List ℕ) → left ≡ Some more → IsLast written (whole (read ++ more))
-Answers ReadFault whole left read written = (written ≡ (whole (whole_lines read)).text) × ((more : List ℕ) → Begins written (whole (read ++ more)).text)
-Answers Unwritten whole left read written = (more : List ℕ) → left ≡ Some more → Begins written (whole (read ++ more)).text
-Answers NoMemory whole left read written = (more : List ℕ) → left ≡ Some more → Begins written (whole (read ++ more)).text
+-- What an ending says of the bytes that were read, of those that the source still tells, and of what was written, where `whole` is the
+-- outcome of all bytes. All done: nothing is left, and all replies were written. Ill-formed: all up to the malformed line was, with its
+-- own. A read fault: the replies to the lines that were read whole. A fault of the disk: those to the commands before. Else a front.
+abbrev pub Answers : Ending → (List ℕ → Outcome) → List ℕ → List ℕ → List ℕ → Type 0
+Answers AllDone whole read more written = (more ≡ []) × IsWhole false written (whole read)
+Answers SomeRefused whole read more written = (more ≡ []) × IsWhole true written (whole read)
+Answers IllFormed whole read more written = IsLast written (whole (read ++ more))
+Answers ReadFault whole read more written = (written ≡ (whole (whole_lines read)).text) × Begins written (whole (read ++ more)).text
+Answers Unwritten whole read more written = Begins written (whole (read ++ more)).text
+Answers DiskFailed whole read more written = AnswersFront whole read written × Begins written (whole (read ++ more)).text
+Answers NoMemory whole read more written = Begins written (whole (read ++ more)).text
 
 -- the same, where the input is at its end
 abbrev pub AnswersAtEnd : Ending → List ℕ → Outcome → Type 0
@@ -72,21 +94,23 @@ AnswersAtEnd SomeRefused text o = IsWhole true text o
 AnswersAtEnd IllFormed text o = IsLast text o
 AnswersAtEnd ReadFault text o = ⊥
 AnswersAtEnd Unwritten text o = Begins text o.text
+AnswersAtEnd DiskFailed text o = text ≡ []
 AnswersAtEnd NoMemory text o = Begins text o.text
 
--- the headline of an ending: what the script, of which `rest` was left unread, is answered by the machine, beside
--- what was written. `read` is what was read of it
-abbrev pub Headline : List World → Ending → List ℕ → List ℕ → List ℕ → List ℕ → Type 0
-Headline worlds AllDone script read rest written = (rest ≡ []) × IsWhole false written (script_outcome worlds script)
-Headline worlds SomeRefused script read rest written = (rest ≡ []) × IsWhole true written (script_outcome worlds script)
-Headline worlds IllFormed script read rest written = IsLast written (script_outcome worlds script)
-Headline worlds ReadFault script read rest written = (written ≡ (script_outcome worlds (whole_lines read)).text) × Begins written (script_outcome worlds script).text
-Headline worlds Unwritten script read rest written = Begins written (script_outcome worlds script).text
-Headline worlds NoMemory script read rest written = Begins written (script_outcome worlds script).text
+-- the run came to the end of its script, or of what is well formed of it
+abbrev pub IsComplete : Ending → Type 0
+IsComplete AllDone = Unit {0}
+IsComplete SomeRefused = Unit {0}
+IsComplete IllFormed = Unit {0}
+IsComplete ReadFault = ⊥
+IsComplete Unwritten = ⊥
+IsComplete DiskFailed = ⊥
+IsComplete NoMemory = ⊥
 
--- where the source tells the script and the sink tells what it holds: the bytes that were read and those that are
--- left, what the sink got in this call, and what the ending says of them, whatever worlds there are
-pub record RunsScript (left_new held_new : Option (List ℕ)) (script held : List ℕ) (code : ℕ) : Type 0 where
+-- What a run does, where the source tells the script, the sink what it holds, and the disk stands for the script: the bytes that were
+-- read and those that are left, what the sink got in this call, and what the ending says of them. Whatever a crash leaves at any moment
+-- stands for the script too, and a complete run leaves a disk that is ready for it.
+pub record RunsScript (worlds : List World) (left_new held_new : Option (List ℕ)) (old new : View) (script held : List ℕ) (code : ℕ) : Type 0 where
   pub ending : Ending
   pub read : List ℕ
   pub rest : List ℕ
@@ -95,7 +119,9 @@ pub record RunsScript (left_new held_new : Option (List ℕ)) (script held : Lis
   pub split : script ≡ read ++ rest
   pub left : left_new ≡ Some rest
   pub got : held_new ≡ Some (held ++ written)
-  pub headline : (worlds : List World) → Headline worlds ending script read rest written
+  pub answers : Answers ending (script_outcome worlds) read rest written
+  pub leaves : LeavesOnly old new (StandsUntil (script_outcome worlds script).machine)
+  pub ready : IsComplete ending → IsReady (script_outcome worlds script).machine new
 
 -- ---- causes
 
@@ -104,20 +130,34 @@ abbrev pub SinkCause : {X : Type 0} → ℕ → ℕ → Result X Stop → Type 0
 SinkCause before now (Ok x) = now ≡ before
 SinkCause before now (Err Malformed) = now ≡ before
 SinkCause before now (Err WriteFault) = Rose before now × (before ≤ now)
+SinkCause before now (Err DiskFault) = now ≡ before
 SinkCause before now (Err Memory) = now ≡ before
 
--- how a run ended, from the counts of faults of its source and its sink
-abbrev pub RunCause : ℕ → ℕ → ℕ → ℕ → Ending → Type 0
-RunCause read read_now wrote wrote_now ReadFault = Rose read read_now × (wrote_now ≡ wrote)
-RunCause read read_now wrote wrote_now Unwritten = (read_now ≡ read) × Rose wrote wrote_now
-RunCause read read_now wrote wrote_now ending = (read_now ≡ read) × (wrote_now ≡ wrote)
+-- the count of the disk's faults rose where the stop is its fault, and stands otherwise
+abbrev pub DiskCause : {X : Type 0} → ℕ → ℕ → Result X Stop → Type 0
+DiskCause before now (Ok x) = now ≡ before
+DiskCause before now (Err Malformed) = now ≡ before
+DiskCause before now (Err WriteFault) = now ≡ before
+DiskCause before now (Err DiskFault) = Rose before now
+DiskCause before now (Err Memory) = now ≡ before
 
--- a status tells by its number whose count of faults rose, and all others stand
-pub record CodeCause (read read_now wrote wrote_now code : ℕ) : Type 0 where
-  pub read_fault : code ≡ 4 → Rose read read_now
-  pub write_fault : code ≡ 5 → Rose wrote wrote_now
-  pub read_kept : code ≢ 4 → read_now ≡ read
-  pub write_kept : code ≢ 5 → wrote_now ≡ wrote
+-- the count of the source's faults, of the sink's or of the disk's rose by the ending, and the others stand
+abbrev pub ReadCause : ℕ → ℕ → Ending → Type 0
+ReadCause before now ReadFault = Rose before now
+ReadCause before now ending = now ≡ before
+
+abbrev pub WriteCause : ℕ → ℕ → Ending → Type 0
+WriteCause before now Unwritten = Rose before now
+WriteCause before now ending = now ≡ before
+
+abbrev pub StoreCause : ℕ → ℕ → Ending → Type 0
+StoreCause before now DiskFailed = Rose before now
+StoreCause before now ending = now ≡ before
+
+-- a status tells by its number whether a count of faults rose; else it stands
+pub record CodeCause (number before now code : ℕ) : Type 0 where
+  pub fault : code ≡ number → Rose before now
+  pub kept : code ≢ number → now ≡ before
 
 -- one word, `run`
 abbrev pub are_known : List (List ℕ) → Bool
@@ -132,6 +172,10 @@ abbrev pub AllWritten : List ℕ → Option (List ℕ) → ℕ → Outcome → T
 AllWritten held held_new code o =
     (held_new ≡ Some (held ++ o.text))
     × (((code ≡ 0) × (o.refused ≡ false) × (o.malformed ≡ false)) ⊎ ((code ≡ 1) × (o.refused ≡ true) × (o.malformed ≡ false)) ⊎ ((code ≡ 3) × (o.malformed ≡ true)))
+
+-- a count of faults didn't rise, and isn't at its end
+abbrev pub StaysLow : ℕ → ℕ → Type 0
+StaysLow before now = (now ≡ before) × (before < 2 ^ 64 - 1)
 
 -- where no count of faults rose, the run answers all, or it wanted memory
 abbrev pub Completes : List ℕ → Option (List ℕ) → ℕ → Outcome → Type 0

@@ -1,14 +1,21 @@
 //! What a line is answered.
-ghost use Rattle.std.specs.Prelude.{◌≡◌, ◌<◌, ◌≤◌, ◌+◌, true, false, is_none, IfOk, List, [], Option};
+ghost use Rattle.std.specs.Prelude.{◌≡◌, ◌<◌, ◌≤◌, ◌+◌, true, false, is_none, IfOk, OnOk, List, [], Option};
+ghost use Rattle.outside_world.specs.Disk.{DiskHasCause};
+ghost use Rattle.outside_world.specs.Moments.{ChangesOnly, LeavesOnly, NoName};
+ghost use Rattle.reply_texts.specs.declared.replies.Response.{Response};
 ghost use Rattle.machine_model.specs.Machine.{World, Machine};
+ghost use Rattle.machine_model.specs.Disks.{IsReady, StandsUntil};
+ghost use Rattle.machine_model.specs.Step.{step};
+ghost use Rattle.machine_model.specs.Script.{first_machine, after_reply, reply_before, response_of, machine_of, command_step, reading_before, machine_after, read_at, Outcome, malformed_text};
 ghost use Rattle.cluster_core.specs.Standing.{StandsFor};
-ghost use Rattle.machine_model.specs.Script.{first_machine, after_reply, reply_before, response_of, machine_of, command_step, reading_before, machine_after, read_at, is_refusal, Outcome, malformed_text};
-ghost use Rattle.backup_run.specs.Run.{SaysLine, StandsAs, HasStepped};
+ghost use Rattle.cluster_core.specs.Stepping.{IsReplied, IsReplyOf};
+ghost use Rattle.backup_run.specs.Run.{SaysLine, StandsAs, HasStepped, IsAnswered};
 
-use cluster_core::{Cluster, Limits};
+use cluster_core::{Cluster, Limits, RunFault};
 use command_lang::{Command, LineFault, parse_line};
 use mvcc_keys::{Hlc, Memory};
-use reply_texts::{Reply, Response};
+use outside_world::{Disk, DiskFault};
+use reply_texts::Reply;
 use std::alloc::Global;
 use table_descriptors::Name;
 
@@ -21,17 +28,11 @@ pub struct Said {
     pub malformed: bool,
 }
 
-fn is_refusal(response: &Response) -> bool
-    ensures { result ≡ is_refusal response.now }
-{
-    matches!(response, Response::Refused(_))
-}
-
 /// The cluster with which a run begins.
 #[tactic(auto, unfolding(machine_model::specs::Script::first_machine))]
 fn first_cluster(alloc: Global, name: Name) -> Cluster
     ensures stands { StandsFor result (first_machine name) }
-    ensures steps { result.steps ≡ 0 }
+    ensures steps { (result.steps ≡ 0) × (result.ended ≡ false) }
 {
     let limits = Limits {
         events: 1_000_000,
@@ -40,45 +41,69 @@ fn first_cluster(alloc: Global, name: Name) -> Cluster
     Cluster::new(alloc, name, Hlc::zero(), limits)
 }
 
-/// The text of a response.
-fn response_said(alloc: Global, response: Response) -> Result<Said, Memory>
-    ensures { IfOk result (λ said. SaysLine said.malformed said.refused said.text.items
-        (λ (o : Outcome). after_reply response o) (λ o. o)) }
+/// The text of a reply.
+fn reply_said(reply: Reply) -> Said
+    ensures { (response : Response) → IsReplyOf response reply → SaysLine result.malformed result.refused result.text.items (λ (o : Outcome). after_reply response o) (λ o. o) }
 {
-    let refused = is_refusal(&response);
-    let reply = Reply::new(alloc, response)?;
-    Ok(Said {
+    Said {
+        refused: reply.refusal.is_some(),
         text: reply.text.into_vec(),
-        refused,
         malformed: false,
-    })
+    }
+}
+
+/// Executes a command by a cluster that no command has ended.
+fn stepped<D: Disk>(
+    cluster: &mut Cluster,
+    disk: &mut D,
+    command: &Command,
+) -> Result<Reply, DiskFault>
+    requires going { cluster.old.ended ≡ false }
+    requires few { cluster.old.steps < 67108864 }
+    ensures step { (worlds : List World) (m : Machine) (end : Option Machine) → StandsFor cluster.old m → IsReady end (D.view disk.old) → IfOk result (λ r. IsReplied cluster.new r (step worlds m command.now)) }
+    ensures ready { (end : Option Machine) → IsReady end (D.view disk.old) → OnOk result (IsReady end (D.view disk.new)) }
+    ensures leaves { (end : Option Machine) → IsReady end (D.view disk.old) → LeavesOnly (D.view disk.old) (D.view disk.new) (StandsUntil end) }
+    ensures changes { ChangesOnly NoName NoName (D.view disk.old) (D.view disk.new) }
+    ensures steps { OnOk result ((cluster.new.steps ≡ cluster.old.steps + 1) × (cluster.new.ended ≡ false)) }
+    ensures cause { DiskHasCause (D.view disk.old).faults (D.view disk.new).faults result }
+{
+    match cluster.step(command, disk) {
+        Ok(reply) => Ok(reply),
+        Err(RunFault::Disk) => Err(DiskFault::Failed),
+        Err(RunFault::Memory) => Err(DiskFault::Memory),
+        Err(RunFault::Ended) => unreachable!(),
+    }
 }
 
 /// Executes a command, of the line of a number. The first one makes the cluster: None where another
 /// comes first.
-fn execute(
+fn execute<D: Disk>(
     alloc: Global,
     cluster: &mut Option<Cluster>,
+    disk: &mut D,
     number: u32,
     command: &Command,
-) -> Result<Option<Response>, Memory>
+) -> Result<Option<Reply>, DiskFault>
     requires stepped { HasStepped cluster.old number }
     requires first { 0 < number }
     requires few { number ≤ 67108864 }
-    ensures response { IfOk result (λ r. (worlds : List World) (m : Option Machine) → StandsAs cluster.old m → r ≡ response_of (command_step worlds m command.now)) }
-    ensures machine { IfOk result (λ _. (worlds : List World) (m : Option Machine) → StandsAs cluster.old m → StandsAs cluster.new (machine_of (command_step worlds m command.now))) }
+    ensures step { (worlds : List World) (m end : Option Machine) → StandsAs cluster.old m → IsReady end (D.view disk.old) → IfOk result (λ r. IsAnswered cluster.new r (command_step worlds m command.now)) }
+    ensures ready { (end : Option Machine) → IsReady end (D.view disk.old) → OnOk result (IsReady end (D.view disk.new)) }
+    ensures leaves { (end : Option Machine) → IsReady end (D.view disk.old) → LeavesOnly (D.view disk.old) (D.view disk.new) (StandsUntil end) }
+    ensures changes { ChangesOnly NoName NoName (D.view disk.old) (D.view disk.new) }
     ensures stepped { IfOk result (λ _. HasStepped cluster.new (number + 1)) }
+    ensures cause { DiskHasCause (D.view disk.old).faults (D.view disk.new).faults result }
 {
     match cluster {
-        Some(known) => Ok(Some(known.step(command)?)),
+        Some(known) => Ok(Some(stepped(known, disk, command)?)),
         None => {
             let Command::Cluster { name } = command else {
                 return Ok(None);
             };
             let mut made = first_cluster(alloc, name.copy(alloc)?);
-            let response = made.step(command)?;
+            let reply = stepped(&mut made, disk, command)?;
             *cluster = Some(made);
-            Ok(Some(response))
+            Ok(Some(reply))
         }
     }
 }
@@ -105,23 +130,28 @@ pub fn malformed_said(alloc: Global, line: u32, column: usize) -> Result<Said, M
 }
 
 /// Executes a command, and says its reply.
-fn command_said(
+fn command_said<D: Disk>(
     alloc: Global,
     cluster: &mut Option<Cluster>,
+    disk: &mut D,
     number: u32,
     command: &Command,
-) -> Result<Said, Memory>
+) -> Result<Said, DiskFault>
     requires stepped { HasStepped cluster.old number }
     requires first { 0 < number }
     requires few { number ≤ 67108864 }
-    ensures said { IfOk result (λ said. (worlds : List World) (m : Option Machine) → StandsAs cluster.old m → SaysLine said.malformed said.refused said.text.items
+    ensures said { (worlds : List World) (m end : Option Machine) → StandsAs cluster.old m → IsReady end (D.view disk.old) → IfOk result (λ said. SaysLine said.malformed said.refused said.text.items
         (λ (o : Outcome). reply_before number (response_of (command_step worlds m command.now)) o) (λ o. o)) }
-    ensures machine { IfOk result (λ _. (worlds : List World) (m : Option Machine) → StandsAs cluster.old m → StandsAs cluster.new (machine_of (command_step worlds m command.now))) }
+    ensures machine { (worlds : List World) (m end : Option Machine) → StandsAs cluster.old m → IsReady end (D.view disk.old) → OnOk result (StandsAs cluster.new (machine_of (command_step worlds m command.now))) }
+    ensures ready { (end : Option Machine) → IsReady end (D.view disk.old) → OnOk result (IsReady end (D.view disk.new)) }
+    ensures leaves { (end : Option Machine) → IsReady end (D.view disk.old) → LeavesOnly (D.view disk.old) (D.view disk.new) (StandsUntil end) }
+    ensures changes { ChangesOnly NoName NoName (D.view disk.old) (D.view disk.new) }
     ensures stepped { IfOk result (λ _. HasStepped cluster.new (number + 1)) }
+    ensures cause { DiskHasCause (D.view disk.old).faults (D.view disk.new).faults result }
 {
-    match execute(alloc, cluster, number, command)? {
-        Some(response) => response_said(alloc, response),
-        None => malformed_said(alloc, number, 1),
+    match execute(alloc, cluster, disk, number, command)? {
+        Some(reply) => Ok(reply_said(reply)),
+        None => Ok(malformed_said(alloc, number, 1)?),
     }
 }
 
@@ -145,25 +175,30 @@ fn is_first(cluster: &Option<Cluster>) -> bool
 }
 
 /// Reads a line and executes it.
-pub fn line_said(
+pub fn line_said<D: Disk>(
     alloc: Global,
     cluster: &mut Option<Cluster>,
+    disk: &mut D,
     number: u32,
     line: &[u8],
-) -> Result<Said, Memory>
+) -> Result<Said, DiskFault>
     requires stepped { HasStepped cluster.old number }
     requires first { 0 < number }
     requires few { number ≤ 67108864 }
-    ensures said { IfOk result (λ said. (worlds : List World) (m : Option Machine) → StandsAs cluster.old m → SaysLine said.malformed said.refused said.text.items
+    ensures said { (worlds : List World) (m end : Option Machine) → StandsAs cluster.old m → IsReady end (D.view disk.old) → IfOk result (λ said. SaysLine said.malformed said.refused said.text.items
         (λ (o : Outcome). reading_before worlds number m (read_at m line.now) o) (λ o. o)) }
-    ensures machine { IfOk result (λ _. (worlds : List World) (m : Option Machine) → StandsAs cluster.old m → StandsAs cluster.new (machine_after worlds m (read_at m line.now))) }
+    ensures machine { (worlds : List World) (m end : Option Machine) → StandsAs cluster.old m → IsReady end (D.view disk.old) → OnOk result (StandsAs cluster.new (machine_after worlds m (read_at m line.now))) }
+    ensures ready { (end : Option Machine) → IsReady end (D.view disk.old) → OnOk result (IsReady end (D.view disk.new)) }
+    ensures leaves { (end : Option Machine) → IsReady end (D.view disk.old) → LeavesOnly (D.view disk.old) (D.view disk.new) (StandsUntil end) }
+    ensures changes { ChangesOnly NoName NoName (D.view disk.old) (D.view disk.new) }
     ensures stepped { IfOk result (λ _. HasStepped cluster.new (number + 1)) }
+    ensures cause { DiskHasCause (D.view disk.old).faults (D.view disk.new).faults result }
 {
     let first = is_first(cluster);
     match parse_line(alloc, line, first) {
         Ok(None) => Ok(nothing_said(alloc)),
-        Ok(Some(command)) => command_said(alloc, cluster, number, &command),
-        Err(LineFault::Wrong { column }) => malformed_said(alloc, number, column),
-        Err(LineFault::Memory) => Err(Memory),
+        Ok(Some(command)) => command_said(alloc, cluster, disk, number, &command),
+        Err(LineFault::Wrong { column }) => Ok(malformed_said(alloc, number, column)?),
+        Err(LineFault::Memory) => Err(DiskFault::Memory),
     }
 }

@@ -1,13 +1,16 @@
 //! A run in the middle of its script.
-ghost use Rattle.std.specs.Prelude.{◌≡◌, ◌≢◌, ◌<◌, ◌+◌, ◌∷◌, [], ◌==◌, ◌||◌, not, length, ℕ, IfOk, List, Option, true, false};
+ghost use Rattle.std.specs.Prelude.{◌≡◌, ◌≢◌, ◌<◌, ◌+◌, ◌∷◌, [], ◌==◌, ◌||◌, not, length, ℕ, IfOk, OnOk, List, Option, true, false};
+ghost use Rattle.outside_world.specs.Disk.{DiskHasCause};
+ghost use Rattle.outside_world.specs.Moments.{ChangesOnly, LeavesOnly, NoName};
 ghost use Rattle.machine_model.specs.Machine.{World, Machine};
+ghost use Rattle.machine_model.specs.Disks.{IsReady, StandsUntil};
 ghost use Rattle.machine_model.specs.Script.{Line, Within};
-ghost use Rattle.backup_run.specs.Endings.{IsLast};
-ghost use Rattle.backup_run.specs.Run.{at_first, at_of, StandsAs, Goes, written_before, ended_at, outcome_of_lines, outcome_of_rest};
+ghost use Rattle.backup_run.specs.Endings.{IsLast, IsWhole};
+ghost use Rattle.backup_run.specs.Run.{at_first, at_of, IsHere, IsHereAtLines, Goes, outcome_of_lines, outcome_of_rest};
 
 use crate::answering::{Said, line_said, malformed_said, nothing_said};
 use cluster_core::Cluster;
-use mvcc_keys::Memory;
+use outside_world::{Disk, DiskFault};
 use std::alloc::Global;
 use std::marker::Model;
 
@@ -75,21 +78,31 @@ impl Session {
         !self.pending.is_empty()
     }
 
-    /// Executes the line that was read. A cluster that wanted memory takes no further command.
-    fn end_line(&mut self) -> Result<Said, Memory>
+    /// Executes the line that was read. A cluster that gave no reply takes no further command.
+    fn end_line<D: Disk>(&mut self, disk: &mut D) -> Result<Said, DiskFault>
         requires { self.old.line + self.old.room < 67108865 }
-        ensures malformed { IfOk result (λ said. said.malformed ≡ true → (worlds : List World) (m : Option Machine) → StandsAs self.old.cluster m → (ls : List Line) →
+        ensures malformed { (worlds : List World) (m : Option Machine) (ls : List Line) → IsHereAtLines worlds self.old (D.view disk.old) m (Within self.old.pending ∷ ls) → IfOk result (λ said. said.malformed ≡ true →
             IsLast said.text.items (outcome_of_lines worlds (at_of self.old m) (Within self.old.pending ∷ ls))) }
-        ensures goes_on { IfOk result (λ said. said.malformed ≡ false → (worlds : List World) (m : Option Machine) → StandsAs self.old.cluster m →
-            Goes self.new said.text.items (λ ls. outcome_of_lines worlds (at_of self.old m) (Within self.old.pending ∷ ls)) (outcome_of_lines worlds)) }
+        ensures goes_on { (worlds : List World) (m : Option Machine) (ls : List Line) → IsHereAtLines worlds self.old (D.view disk.old) m (Within self.old.pending ∷ ls) → IfOk result (λ said. said.malformed ≡ false →
+            Goes self.new said.text.items (λ xs. outcome_of_lines worlds (at_of self.old m) (Within self.old.pending ∷ xs)) (outcome_of_lines worlds)) }
+        ensures ready { (end : Option Machine) → IsReady end (D.view disk.old) → OnOk result (IsReady end (D.view disk.new)) }
+        ensures leaves { (end : Option Machine) → IsReady end (D.view disk.old) → LeavesOnly (D.view disk.old) (D.view disk.new) (StandsUntil end) }
+        ensures changes { ChangesOnly NoName NoName (D.view disk.old) (D.view disk.new) }
         ensures cleared { IfOk result (λ _. self.new.pending ≡ []) }
         ensures room { self.new.room ≡ self.old.room }
+        ensures cause { DiskHasCause (D.view disk.old).faults (D.view disk.new).faults result }
     {
-        let said = match line_said(self.alloc, &mut self.cluster, self.line, &self.pending) {
+        let said = match line_said(
+            self.alloc,
+            &mut self.cluster,
+            disk,
+            self.line,
+            &self.pending,
+        ) {
             Ok(said) => said,
-            Err(memory) => {
+            Err(fault) => {
                 self.cluster = None;
-                return Err(memory);
+                return Err(fault);
             }
         };
         self.pending.clear();
@@ -99,25 +112,29 @@ impl Session {
     }
 
     /// Takes a byte of the script.
-    pub fn take_byte(&mut self, byte: u8) -> Result<Said, Memory>
-        ensures malformed { IfOk result (λ said. said.malformed ≡ true → (worlds : List World) (m : Option Machine) → StandsAs self.old.cluster m → (more : List ℕ) →
+    pub fn take_byte<D: Disk>(&mut self, disk: &mut D, byte: u8) -> Result<Said, DiskFault>
+        ensures malformed { (worlds : List World) (m : Option Machine) (more : List ℕ) → IsHere worlds self.old (D.view disk.old) m (byte ∷ more) → IfOk result (λ said. said.malformed ≡ true →
             IsLast said.text.items (outcome_of_rest worlds (at_of self.old m) (byte ∷ more))) }
-        ensures goes_on { IfOk result (λ said. said.malformed ≡ false → (worlds : List World) (m : Option Machine) → StandsAs self.old.cluster m →
-            Goes self.new said.text.items (λ more. outcome_of_rest worlds (at_of self.old m) (byte ∷ more)) (outcome_of_rest worlds)) }
+        ensures goes_on { (worlds : List World) (m : Option Machine) (more : List ℕ) → IsHere worlds self.old (D.view disk.old) m (byte ∷ more) → IfOk result (λ said. said.malformed ≡ false →
+            Goes self.new said.text.items (λ xs. outcome_of_rest worlds (at_of self.old m) (byte ∷ xs)) (outcome_of_rest worlds)) }
+        ensures ready { (end : Option Machine) → IsReady end (D.view disk.old) → OnOk result (IsReady end (D.view disk.new)) }
+        ensures leaves { (end : Option Machine) → IsReady end (D.view disk.old) → LeavesOnly (D.view disk.old) (D.view disk.new) (StandsUntil end) }
+        ensures changes { ChangesOnly NoName NoName (D.view disk.old) (D.view disk.new) }
         ensures room { IfOk result (λ said. said.malformed ≡ false → self.new.room + 1 ≡ self.old.room) }
         ensures cleared { IfOk result (λ said. said.malformed ≡ false → byte ≡ 10 → self.new.pending ≡ []) }
         ensures quiet { IfOk result (λ said. said.malformed ≡ false → byte ≢ 10 → said.text.items ≡ []) }
+        ensures cause { DiskHasCause (D.view disk.old).faults (D.view disk.new).faults result }
     {
         if self.room == 0 {
             let column = self.pending.as_slice().len() + 1;
-            return malformed_said(self.alloc, self.line, column);
+            return Ok(malformed_said(self.alloc, self.line, column)?);
         }
         if byte == b'\n' {
             self.room -= 1;
-            return self.end_line();
+            return self.end_line(disk);
         }
         if self.pending.len() == 65_536 {
-            return malformed_said(self.alloc, self.line, 65_537);
+            return Ok(malformed_said(self.alloc, self.line, 65_537)?);
         }
         self.room -= 1;
         self.pending.push(byte)?;
@@ -125,14 +142,18 @@ impl Session {
     }
 
     /// Takes the end of the input, which may end a line.
-    pub fn end_input(&mut self) -> Result<Said, Memory>
-        ensures malformed { IfOk result (λ said. said.malformed ≡ true → (worlds : List World) (m : Option Machine) → StandsAs self.old.cluster m →
+    pub fn end_input<D: Disk>(&mut self, disk: &mut D) -> Result<Said, DiskFault>
+        ensures malformed { (worlds : List World) (m : Option Machine) → IsHere worlds self.old (D.view disk.old) m [] → IfOk result (λ said. said.malformed ≡ true →
             IsLast said.text.items (outcome_of_rest worlds (at_of self.old m) [])) }
-        ensures goes_on { IfOk result (λ said. said.malformed ≡ false → (worlds : List World) (m : Option Machine) → StandsAs self.old.cluster m →
-            outcome_of_rest worlds (at_of self.old m) [] ≡ written_before said.text.items (ended_at self.new.refused)) }
+        ensures whole { (worlds : List World) (m : Option Machine) → IsHere worlds self.old (D.view disk.old) m [] → IfOk result (λ said. said.malformed ≡ false →
+            IsWhole self.new.refused said.text.items (outcome_of_rest worlds (at_of self.old m) [])) }
+        ensures ready { (end : Option Machine) → IsReady end (D.view disk.old) → OnOk result (IsReady end (D.view disk.new)) }
+        ensures leaves { (end : Option Machine) → IsReady end (D.view disk.old) → LeavesOnly (D.view disk.old) (D.view disk.new) (StandsUntil end) }
+        ensures changes { ChangesOnly NoName NoName (D.view disk.old) (D.view disk.new) }
+        ensures cause { DiskHasCause (D.view disk.old).faults (D.view disk.new).faults result }
     {
         if self.is_amid_line() {
-            return self.end_line();
+            return self.end_line(disk);
         }
         Ok(nothing_said(self.alloc))
     }

@@ -1,23 +1,26 @@
 //! Why a run stops before the end of its script, and how it ended.
 ghost use Rattle.std.specs.Prelude.{◌≡◌};
-ghost use Rattle.backup_run.specs.declared.stops.Stop.TheVariants.{WriteFault, Memory as no_memory};
-ghost use Rattle.backup_run.specs.Endings.{ending_of};
+ghost use Rattle.backup_run.specs.declared.stops.Stop.TheVariants.{WriteFault};
+ghost use Rattle.backup_run.specs.Endings.{ending_of, stop_of};
 
-use mvcc_keys::Memory;
-use outside_world::Failed;
+use outside_world::{DiskFault, Failed};
 
 #[derive(Clone, Copy, Debug, PartialEq, Eq)]
 pub enum Stop {
     Malformed,
     WriteFault,
+    DiskFault,
     Memory,
 }
 
-impl From<Memory> for Stop {
-    ghost from_gives = { λ _ e. e ≡ no_memory };
+impl From<DiskFault> for Stop {
+    ghost from_gives = { λ fault e. e ≡ stop_of fault };
 
-    fn from(_refused: Memory) -> Stop {
-        Stop::Memory
+    fn from(fault: DiskFault) -> Stop {
+        match fault {
+            DiskFault::Failed => Stop::DiskFault,
+            DiskFault::Memory => Stop::Memory,
+        }
     }
 }
 
@@ -37,6 +40,7 @@ pub enum Ending {
     IllFormed,
     ReadFault,
     Unwritten,
+    DiskFailed,
     NoMemory,
 }
 
@@ -46,6 +50,7 @@ pub fn ending_of(stop: Stop) -> Ending
     match stop {
         Stop::Malformed => Ending::IllFormed,
         Stop::WriteFault => Ending::Unwritten,
+        Stop::DiskFault => Ending::DiskFailed,
         Stop::Memory => Ending::NoMemory,
     }
 }

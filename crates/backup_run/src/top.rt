@@ -1,8 +1,10 @@
 //! The top call.
-ghost use Rattle.std.specs.Prelude.{◌↔◌, true, false, ◌≡◌, ◌<◌, ◌≤◌, ◌-◌, ◌^◌, List, ℕ, Some, IfOk, length};
+ghost use Rattle.std.specs.Prelude.{◌↔◌, true, false, ◌≡◌, ◌<◌, ◌≤◌, List, ℕ, Some, IfOk, length};
+ghost use Rattle.outside_world.specs.Moments.{ChangesOnly, NoName};
 ghost use Rattle.machine_model.specs.Machine.{World};
+ghost use Rattle.machine_model.specs.Disks.{IsReady};
 ghost use Rattle.machine_model.specs.Script.{script_outcome};
-ghost use Rattle.backup_run.specs.Endings.{RunsScript, code_of, are_known, CodeCause, RunCause, Completes, done_ending};
+ghost use Rattle.backup_run.specs.Endings.{RunsScript, code_of, are_known, CodeCause, ReadCause, WriteCause, StoreCause, StaysLow, Completes, done_ending};
 ghost use Rattle.backup_run.specs.Run.{at_first, Ran, AtInputEnd};
 
 use crate::feeding::{end_input, feed};
@@ -23,11 +25,13 @@ fn done_ending(refused: bool) -> Ending
 }
 
 /// The ending of a run whose input was read to its end.
-fn end_of_run<K: Sink>(session: &mut Session, sink: &mut K) -> Ending
-    ensures ran { AtInputEnd (K.held sink.old) (K.held sink.new) session.old result }
-    ensures cause { RunCause 0 0 (K.faults sink.old) (K.faults sink.new) result }
+fn end_of_run<K: Sink, D: Disk>(session: &mut Session, sink: &mut K, disk: &mut D) -> Ending
+    ensures ran { AtInputEnd (K.held sink.old) (K.held sink.new) (D.view disk.old) (D.view disk.new) session.old result }
+    ensures wrote { WriteCause (K.faults sink.old) (K.faults sink.new) result }
+    ensures stored { StoreCause (D.view disk.old).faults (D.view disk.new).faults result }
+    ensures read { ReadCause 0 0 result }
 {
-    match end_input(session, sink) {
+    match end_input(session, sink, disk) {
         Ok(refused) => done_ending(refused),
         Err(stop) => ending_of(stop),
     }
@@ -35,25 +39,28 @@ fn end_of_run<K: Sink>(session: &mut Session, sink: &mut K) -> Ending
 
 /// Reads pieces into a room and feeds them until the input or the run ends. Each piece takes some
 /// of the bytes that the script may have, so the loop ends.
-fn run_session<S: Source, K: Sink>(
+fn run_session<S: Source, K: Sink, D: Disk>(
     session: &mut Session,
     room: &mut [u8],
     source: &mut S,
     sink: &mut K,
+    disk: &mut D,
 ) -> Ending
     requires { 0 < length room.old }
-    ensures ran { Ran (S.left source.old) (S.left source.new) (K.held sink.old) (K.held sink.new) session.old result }
-    ensures cause { RunCause (S.faults source.old) (S.faults source.new) (K.faults sink.old) (K.faults sink.new) result }
+    ensures ran { Ran (S.left source.old) (S.left source.new) (K.held sink.old) (K.held sink.new) (D.view disk.old) (D.view disk.new) session.old result }
+    ensures read { ReadCause (S.faults source.old) (S.faults source.new) result }
+    ensures wrote { WriteCause (K.faults sink.old) (K.faults sink.new) result }
+    ensures stored { StoreCause (D.view disk.old).faults (D.view disk.new).faults result }
 {
     'pieces: loop {
         let Ok(count) = source.read(room) else {
             return Ending::ReadFault;
         };
         if count == 0 {
-            return end_of_run(session, sink);
+            return end_of_run(session, sink, disk);
         }
         let piece = room.split_at(count).0;
-        match feed(session, sink, piece) {
+        match feed(session, sink, disk, piece) {
             Ok(()) => {}
             Err(stop) => return ending_of(stop),
         }
@@ -68,19 +75,27 @@ fn make_room(alloc: Global, len: usize) -> Result<Vec<u8>, Memory>
 }
 
 /// Executes a script.
-fn run_script<S: Source, K: Sink>(alloc: Global, source: &mut S, sink: &mut K) -> Ending
-    ensures ran { Ran (S.left source.old) (S.left source.new) (K.held sink.old) (K.held sink.new) at_first result }
-    ensures cause { RunCause (S.faults source.old) (S.faults source.new) (K.faults sink.old) (K.faults sink.new) result }
+fn run_script<S: Source, K: Sink, D: Disk>(
+    alloc: Global,
+    source: &mut S,
+    sink: &mut K,
+    disk: &mut D,
+) -> Ending
+    ensures ran { Ran (S.left source.old) (S.left source.new) (K.held sink.old) (K.held sink.new) (D.view disk.old) (D.view disk.new) at_first result }
+    ensures read { ReadCause (S.faults source.old) (S.faults source.new) result }
+    ensures wrote { WriteCause (K.faults sink.old) (K.faults sink.new) result }
+    ensures stored { StoreCause (D.view disk.old).faults (D.view disk.new).faults result }
 {
     let mut session = Session::new(alloc);
     match make_room(alloc, 65_536) {
-        Ok(mut room) => run_session(&mut session, room.as_mut_slice(), source, sink),
+        Ok(mut room) => run_session(&mut session, room.as_mut_slice(), source, sink, disk),
         Err(_) => Ending::NoMemory,
     }
 }
 
 /// What the program ends with: a number from 0 to 7. 0: all done; 1: the same with a refusal; 2: the
-/// words; 3: a malformed line; 4: a read fault; 5: a write fault; 7: want of memory.
+/// words; 3: a malformed line; 4: a read fault; 5: a write fault; 6: a fault of the disk; 7: want of
+/// memory.
 #[derive(Clone, Copy, Debug, PartialEq, Eq)]
 pub struct Status {
     pub code: u8,
@@ -106,6 +121,7 @@ fn status_of(ending: Ending) -> Status
         Ending::IllFormed => 3,
         Ending::ReadFault => 4,
         Ending::Unwritten => 5,
+        Ending::DiskFailed => 6,
         Ending::NoMemory => 7,
     };
     Status { code }
@@ -122,24 +138,27 @@ pub fn run<S: Source, K: Sink, D: Disk>(
 ) -> Status
     // The words alone decide on status 2, and then nothing is read or written.
     ensures words { result.code ≡ 2 ↔ (are_known words.now ≡ false) }
-    ensures idle { are_known words.now ≡ false → (source.new ≡ source.old) × (sink.new ≡ sink.old) }
-    // What the sink got in this call is what the table machine answers to the script that the
-    // source tells, all of it or as much as the status says.
-    ensures headline { are_known words.now ≡ true → (script held : List ℕ) → S.left source.old ≡ Some script → K.held sink.old ≡ Some held →
-        RunsScript (S.left source.new) (K.held sink.new) script held result.code }
-    // The counts of faults: 4 and 5 come only where they rose.
-    ensures cause { CodeCause (S.faults source.old) (S.faults source.new) (K.faults sink.old) (K.faults sink.new) result.code }
+    ensures idle { are_known words.now ≡ false → (source.new ≡ source.old) × (sink.new ≡ sink.old) × (disk.new ≡ disk.old) }
+    // Where the disk stands for the script that the source tells, what the sink got in this call is
+    // what the table machine answers to it, all of it or as much as the status says; and whatever a
+    // crash leaves of the disk at any moment of the call stands for the script, too.
+    ensures headline { are_known words.now ≡ true → (worlds : List World) (script held : List ℕ) → S.left source.old ≡ Some script → K.held sink.old ≡ Some held →
+        IsReady (script_outcome worlds script).machine (D.view disk.old) →
+        RunsScript worlds (S.left source.new) (K.held sink.new) (D.view disk.old) (D.view disk.new) script held result.code }
+    // No command that is built so far puts or removes an object.
+    ensures changes { ChangesOnly NoName NoName (D.view disk.old) (D.view disk.new) }
+    // The counts of faults: 4, 5 and 6 come only where they rose.
+    ensures read { CodeCause 4 (S.faults source.old) (S.faults source.new) result.code }
+    ensures wrote { CodeCause 5 (K.faults sink.old) (K.faults sink.new) result.code }
+    ensures stored { CodeCause 6 (D.view disk.old).faults (D.view disk.new).faults result.code }
     // Without a rise all is answered, or memory was wanted.
-    ensures complete { are_known words.now ≡ true → (script held : List ℕ) → S.left source.old ≡ Some script → K.held sink.old ≡ Some held →
-        S.faults source.new ≡ S.faults source.old → S.faults source.old < 2 ^ 64 - 1 →
-        K.faults sink.new ≡ K.faults sink.old → K.faults sink.old < 2 ^ 64 - 1 →
-        (worlds : List World) → Completes held (K.held sink.new) result.code (script_outcome worlds script) }
-    // No command that is built so far has to do with the disk.
-    ensures untouched { disk.new ≡ disk.old }
+    ensures complete { are_known words.now ≡ true → (worlds : List World) (script held : List ℕ) → S.left source.old ≡ Some script → K.held sink.old ≡ Some held →
+        IsReady (script_outcome worlds script).machine (D.view disk.old) →
+        StaysLow (S.faults source.old) (S.faults source.new) → StaysLow (K.faults sink.old) (K.faults sink.new) → StaysLow (D.view disk.old).faults (D.view disk.new).faults →
+        Completes held (K.held sink.new) result.code (script_outcome worlds script) }
 {
-    let _ = &disk;
     if !are_known(words) {
         return Status { code: 2 };
     }
-    status_of(run_script(alloc, source, sink))
+    status_of(run_script(alloc, source, sink, disk))
 }

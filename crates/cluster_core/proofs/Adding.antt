@@ -22,14 +22,11 @@ use Rattle.cluster_core.specs.Standing.{Keeps, machine_of, IsStepped, Refuses, r
 use Rattle.cluster_core.proofs.Tables.{by_id-at}
 use Rattle.cluster_core.proofs.Kept.{next-later, in_force-has, grown, keeps-more, may-add}
 use Rattle.cluster_core.proofs.Looking.{Sees, sees}
-use Rattle.cluster_core.proofs.Flow.{full, draws, missing, finds, passes, stops, does}
+use Rattle.cluster_core.proofs.Flow.{draws, missing, finds, passes, stops, does}
 
 module _ (name : List ℕ × List ℕ) (fault : Schema → Option RowsFault) (facts : Schema → Time → List RowFact) (answer : Time → Answer) where
   abbrev pub means : Machine → Stepped
   means m = adding m name fault facts answer
-
-  pub adds-full : (c : ClusterState) → next c.clock ≡ None → Refuses c means ClockFull
-  adds-full c e tables k = full (machine_of c tables) _ e
 
   pub adds-missing : (c : ClusterState) (t : Time) → next c.clock ≡ Some t → found_in c.schemas name t ≡ None → Refuses c means (NoSuchTable name)
   adds-missing c t draw e tables k = draws (machine_of c tables) _ t draw ∙ missing c tables name t _ k e

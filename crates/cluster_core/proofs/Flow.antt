@@ -1,6 +1,7 @@
 -- The tests of a command, one after another: where one refuses, and where all pass.
-use Rattle.std.proofs.Common.{◌≡◌, ℕ, ◌+◌, refl, sym, ap, ◌∙◌, subst, List, ◌∷◌, Option, Some, None, Result, Ok, Err, IsErrAnd}
-use Rattle.std.proofs.lemmas.Result.{err_from_is_err_and}
+use Rattle.std.proofs.Common.{◌≡◌, ℕ, Bool, refl, sym, ap, ◌∙◌, subst, List, ◌∷◌, Option, Some, None, Result, Ok, Err, IsErrAnd}
+use Rattle.std.specs.Prelude.{IfOk}
+use Rattle.std.proofs.lemmas.Result.{err_from_is_err_and, IfOk-weaker}
 use Rattle.mvcc_keys.specs.Times.{Time, next}
 use Rattle.table_descriptors.specs.Descriptors.{Schema}
 use Rattle.history_model.specs.Histories.{Table, Found}
@@ -14,14 +15,17 @@ use Rattle.reply_texts.specs.declared.refusals.Refusal.{Refusal}
 use Rattle.reply_texts.specs.declared.refusals.Refusal.TheVariants.{ClockFull, NoSuchTable}
 use Rattle.reply_texts.specs.declared.answers.Answer.{Answer}
 use Rattle.reply_texts.specs.declared.replies.Response.{Response}
-use Rattle.machine_model.specs.Machine.{Machine, Stepped, refused, answered, judged, drawing, with_time, with_table, with_found, catalog_of}
-use Rattle.machine_model.specs.Refusals.{catalog_refusal, rows_refusal}
+use Rattle.machine_model.specs.Machine.{World, Machine, Stepped, refused, answered, judged, drawing, with_time, with_table, with_found, catalog_of}
+use Rattle.machine_model.specs.Refusals.{refusal_of_catalog, refusal_of_rows, catalog_refusal, rows_refusal}
+use Rattle.cluster_core.specs.declared.fault.RunFault.{RunFault}
 use Rattle.cluster_core.specs.declared.halts.Halt.{Halt}
 use Rattle.cluster_core.specs.declared.halts.Halt.TheVariants.{Refused, Memory}
 use Rattle.cluster_core.specs.ClusterView.{ClusterState}
 use Rattle.cluster_core.specs.Finding.{found_in, IsMissing}
-use Rattle.cluster_core.specs.Halting.{halt_of_catalog, halt_of_rows}
+use Rattle.cluster_core.specs.Halting.{halt_of}
 use Rattle.cluster_core.specs.Standing.{Keeps, machine_of, StandsFor, IsStepped, RefusedBy, Refuses, Does}
+use Rattle.cluster_core.specs.Stepping.{IsReplyOf, IsReplied}
+use Rattle.reply_texts.specs.declared.replies.Reply.{Reply}
 use Rattle.fact_model.proofs.TimeLaws.{le-refl}
 use Rattle.cluster_core.proofs.Kept.{keeps-as}
 use Rattle.cluster_core.proofs.Looking.{Sees, misses}
@@ -48,7 +52,7 @@ pub exit_missing : (old : ClusterState) (meaning : Machine → Stepped) (r : Res
     → (found ≡ None → Refuses old meaning (NoSuchTable name)) → Does old old meaning r
 exit_missing old meaning r e name found is by go = returned old old meaning r e is (missed old meaning e name found by go)
 
-by_catalog : (e : CatalogFault) (fault : Option CatalogFault) → FaultIs e fault → RefusedBy (halt_of_catalog e) (catalog_refusal fault)
+by_catalog : (e : CatalogFault) (fault : Option CatalogFault) → FaultIs e fault → RefusedBy (halt_of (refusal_of_catalog e)) (catalog_refusal fault)
 by_catalog (NoDatabase database) fault p = ap catalog_refusal p
 by_catalog (Exists database) fault p = ap catalog_refusal p
 by_catalog (NoTable table) fault p = ap catalog_refusal p
@@ -59,20 +63,20 @@ by_catalog (IsReferenced by) fault p = ap catalog_refusal p
 by_catalog Full fault p = ap catalog_refusal p
 by_catalog Wanted fault p = tt
 
-pub exit_catalog : (old new : ClusterState) (meaning : Machine → Stepped) (r : Result Answer Halt) (e : CatalogFault) (fault : Option CatalogFault) → new ≡ old → IsErrAnd r (λ y. y ≡ halt_of_catalog e) → FaultIs e fault
+pub exit_catalog : (old new : ClusterState) (meaning : Machine → Stepped) (r : Result Answer Halt) (e : CatalogFault) (fault : Option CatalogFault) → new ≡ old → IsErrAnd r (λ y. y ≡ halt_of (refusal_of_catalog e)) → FaultIs e fault
     → ((refusal : Refusal) → catalog_refusal fault ≡ Some refusal → Refuses old meaning refusal) → Does old new meaning r
-exit_catalog old new meaning r e fault same is by go = exit_by old new meaning r (halt_of_catalog e) (catalog_refusal fault) same is (by_catalog e fault by) go
+exit_catalog old new meaning r e fault same is by go = exit_by old new meaning r (halt_of (refusal_of_catalog e)) (catalog_refusal fault) same is (by_catalog e fault by) go
 
-by_rows : (e : RowsFault) (fault : Option RowsFault) → Finds (Err e) fault → RefusedBy (halt_of_rows e) (rows_refusal fault)
+by_rows : (e : RowsFault) (fault : Option RowsFault) → Finds (Err e) fault → RefusedBy (halt_of (refusal_of_rows e)) (rows_refusal fault)
 by_rows (Wrong row column) fault p = ap rows_refusal p
 by_rows (Large row) fault p = ap rows_refusal p
 by_rows (Duplicate row) fault p = ap rows_refusal p
 by_rows Empty fault p = ap rows_refusal p
 by_rows NoMemory fault p = tt
 
-pub exit_rows : (old : ClusterState) (meaning : Machine → Stepped) (r : Result Answer Halt) (e : RowsFault) (fault : Option RowsFault) → IsErrAnd r (λ y. y ≡ halt_of_rows e) → Finds (Err e) fault
+pub exit_rows : (old : ClusterState) (meaning : Machine → Stepped) (r : Result Answer Halt) (e : RowsFault) (fault : Option RowsFault) → IsErrAnd r (λ y. y ≡ halt_of (refusal_of_rows e)) → Finds (Err e) fault
     → ((refusal : Refusal) → rows_refusal fault ≡ Some refusal → Refuses old meaning refusal) → Does old old meaning r
-exit_rows old meaning r e fault is by go = exit_by old old meaning r (halt_of_rows e) (rows_refusal fault) refl is (by_rows e fault by) go
+exit_rows old meaning r e fault is by go = exit_by old old meaning r (halt_of (refusal_of_rows e)) (rows_refusal fault) refl is (by_rows e fault by) go
 
 -- ---- tests
 
@@ -81,9 +85,6 @@ passes m test tests change is = rw is refl
 
 pub stops : (m : Machine) (test : Option Refusal) (tests : List (Option Refusal)) (change : Stepped) (refusal : Refusal) → test ≡ Some refusal → judged m (test ∷ tests) change ≡ refused m refusal
 stops m test tests change refusal is = rw is refl
-
-pub full : (m : Machine) (change : Time → Stepped) → next m.clock ≡ None → drawing m change ≡ refused m ClockFull
-full m change is = ap (λ (t : Option Time). with_time m t change) is
 
 pub draws : (m : Machine) (change : Time → Stepped) (t : Time) → next m.clock ≡ Some t → drawing m change ≡ change t
 draws m change t is = ap (λ (t : Option Time). with_time m t change) is
@@ -101,24 +102,28 @@ catalog-is c tables k = ap (λ (xs : List (List Schema)). record { databases = c
 
 -- ---- steps
 
--- one command more was executed
-abbrev counted : ClusterState → ClusterState
-counted c = record { name = c.name; most_events = c.most_events; clock = c.clock; schemas = c.schemas; store = c.store; events = c.events; steps = c.steps + 1; changes = c.changes }
+-- counting commands, and whether one ended the cluster, changes nothing of what it stands for
+pub recounted : (c : ClusterState) (steps : ℕ) (ended : Bool) (m : Machine) → StandsFor c m → StandsFor (record c { steps = steps; ended = ended }) m
+recounted c steps ended m s = record { tables = s.tables; keeps = keeps-as c (record c { steps = steps; ended = ended }) s.tables s.keeps refl refl refl (le-refl c.clock); machine_is = s.machine_is }
 
-pub step-answered : (old new : ClusterState) (meaning : Machine → Stepped) (answer : Answer) → Does (counted old) new meaning (Ok answer) → (m : Machine) → StandsFor old m → IsStepped new (Response.Answered answer) (meaning m)
-step-answered old new meaning answer does m s =
-    subst (λ (x : Machine). IsStepped new (Response.Answered answer) (meaning x)) (sym s.machine_is)
-    (does s.tables (keeps-as old (counted old) s.tables s.keeps refl refl refl (le-refl old.clock)))
+pub step-answered : (old new : ClusterState) (meaning : Machine → Stepped) (answer : Answer) → Does old new meaning (Ok answer) → (m : Machine) → StandsFor old m → IsStepped new (Response.Answered answer) (meaning m)
+step-answered old new meaning answer does m s = subst (λ (x : Machine). IsStepped new (Response.Answered answer) (meaning x)) (sym s.machine_is) (does s.tables s.keeps)
 
-pub step-refused : (old new : ClusterState) (meaning : Machine → Stepped) (refusal : Refusal) (halt : Halt) → halt ≡ Refused refusal → Does (counted old) new meaning (Err halt) → (m : Machine) → StandsFor old m → IsStepped new (Response.Refused refusal) (meaning m)
+pub step-refused : (old new : ClusterState) (meaning : Machine → Stepped) (refusal : Refusal) (halt : Halt) → halt ≡ Refused refusal → Does old new meaning (Err halt) → (m : Machine) → StandsFor old m → IsStepped new (Response.Refused refusal) (meaning m)
 step-refused old new meaning refusal halt is-halt does-halt m s =
-    let does = subst (λ (h : Halt). Does (counted old) new meaning (Err h)) is-halt does-halt in
-    let keeps = keeps-as old (counted old) s.tables s.keeps refl refl refl (le-refl old.clock) in
-    let is : meaning m ≡ refused m refusal = subst (λ (x : Machine). meaning x ≡ refused x refusal) (sym s.machine_is) (does.1 s.tables keeps) in
-    subst (λ (x : Stepped). IsStepped new (Response.Refused refusal) x) (sym is) (record {
-      stands = subst (λ (c : ClusterState). StandsFor c m) (sym does.0) (record { tables = s.tables; keeps = keeps; machine_is = s.machine_is });
-      response_is = refl;
-    })
+    let does = subst (λ (h : Halt). Does old new meaning (Err h)) is-halt does-halt in
+    let is : meaning m ≡ refused m refusal = subst (λ (x : Machine). meaning x ≡ refused x refusal) (sym s.machine_is) (does.1 s.tables s.keeps) in
+    subst (λ (x : Stepped). IsStepped new (Response.Refused refusal) x) (sym is) (record { stands = subst (λ (c : ClusterState). StandsFor c m) (sym does.0) s; response_is = refl })
+
+-- the reply of a response is that of the machine's
+pub replied : (c : ClusterState) (response : Response) (reply : Reply) (s : Stepped) → IsStepped c response s → IsReplyOf response reply → IsReplied c reply s
+replied c response reply s done is = record { stands = done.stands; reply_is = subst (λ (r : Response). IsReplyOf r reply) done.response_is is }
+
+pub step-replied : (old mid : ClusterState) (steps : ℕ) (ended : Bool) (r : Result Reply RunFault) (meaning : List World → Machine → Stepped)
+    → IfOk r (λ x. (worlds : List World) (m : Machine) → StandsFor (record old { steps = steps }) m → IsReplied mid x (meaning worlds m)) → (worlds : List World) (m : Machine) → StandsFor old m
+    → IfOk r (λ x. IsReplied (record mid { ended = ended }) x (meaning worlds m))
+step-replied old mid steps ended r meaning done worlds m s = IfOk-weaker r _ _ (λ x f.
+    let d = f worlds m (recounted old steps old.ended m s) in record { stands = recounted mid mid.steps ended (meaning worlds m).machine d.stands; reply_is = d.reply_is }) done
 
 -- ---- answers
 

@@ -106,7 +106,7 @@ same-accepted tables i n t u got is =
 
 -- facts are added to it, which are dated after the clock
 abbrev pub grown : ClusterState → MvccMap → Time → ℕ → ClusterState
-grown c store at n = record { name = c.name; most_events = c.most_events; clock = at; schemas = c.schemas; store = store; events = c.events + n; steps = c.steps; changes = c.changes }
+grown c store at n = record c { clock = at; store = store; events = c.events + n }
 
 pub keeps-more : (c : ClusterState) (store : MvccMap) (at : Time) (tables : List Table) (i : ℕ) (t : Table) (fs : List RowFact) → Keeps c tables → slice_get tables i ≡ Some t → time_lt c.clock at ≡ true
     → ((f : RowFact) → Has f fs → date f ≡ at) → HasRows (λ h. KeepsAll store.tables.entries h) (with_facts (100 + i) fs (rows_of tables)) → Keeps (grown c store at (length fs)) (slice_set tables i (extended t fs))
@@ -144,7 +144,7 @@ may-add c at tables i t f k got lt is =
 
 -- a descriptor is added to it
 abbrev pub redated : ClusterState → Schemas → Time → ClusterState
-redated c schemas at = record { name = c.name; most_events = c.most_events; clock = at; schemas = schemas; store = c.store; events = c.events; steps = c.steps; changes = c.changes + 1 }
+redated c schemas at = record c { clock = at; schemas = schemas; changes = c.changes + 1 }
 
 front-kinds : (ds : List Schema) (d e : Schema) → Has d ds → kinds_of (ds ++ e ∷ []) ≡ kinds_of ds
 front-kinds [] d e has = absurd has
@@ -181,7 +181,7 @@ keeps-described c at tables i t d e k got lt has id kinds =
 
 -- its threshold is raised
 abbrev pub restored : ClusterState → MvccMap → ClusterState
-restored c store = record { name = c.name; most_events = c.most_events; clock = c.clock; schemas = c.schemas; store = store; events = c.events; steps = c.steps; changes = c.changes }
+restored c store = record c { store = store }
 
 pub keeps-raised : (c : ClusterState) (store : MvccMap) (g : Time) (tables : List Table) (i : ℕ) (t : Table) → Keeps c tables → slice_get tables i ≡ Some t → time_lt c.clock g ≡ false
     → HasRows (λ h. KeepsAll store.tables.entries h) (with_threshold (100 + i) g (rows_of tables)) → Keeps (restored c store) (slice_set tables i (record t { threshold = raised t.threshold g }))
@@ -229,7 +229,7 @@ by_id-none none f = fun_ext (λ id. by id (nat_lt id 100) refl)
     by id false high = rw high refl
 
 pub stands-empty : (name : List ℕ) (events limit : ℕ) (clock : Time) (schemas : Schemas) (store : MvccMap) → schemas ≡ no_schemas limit → KeepsAll store.tables.entries no_facts
-    → StandsFor (record { name = name; most_events = events; clock = clock; schemas = schemas; store = store; events = 0; steps = 0; changes = 0 }) (empty_machine name clock (record { events = events; tables = limit }))
+    → StandsFor (record { name = name; most_events = events; clock = clock; schemas = schemas; store = store; events = 0; steps = 0; changes = 0; ended = false }) (empty_machine name clock (record { events = events; tables = limit }))
 stands-empty name events limit clock schemas store is keeps = record {
   tables = [];
   keeps = record {

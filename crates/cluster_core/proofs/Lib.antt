@@ -8,3 +8,4 @@ pub mod Adding
 pub mod SchemaCommands
 pub mod Reading
 pub mod Versions
+pub mod Past

@@ -42,11 +42,6 @@ got-has [] j x e = cc e
 got-has (z ∷ zs) zero x e = let same : z ≡ x = cc e in inl (sym same)
 got-has (z ∷ zs) (suc j) x e = inr (got-has zs j x e)
 
-pub has-got : {X : Type 0} (xs : List X) (x : X) → Has x xs → (j : ℕ) × (slice_get xs j ≡ Some x)
-has-got [] x h = absurd h
-has-got (z ∷ zs) x (inl e) = (0, ap Some (sym e))
-has-got (z ∷ zs) x (inr h) = (let p = has-got zs x h in (suc p.0, p.1))
-
 pub find-has : {X : Type 0} (p : X → Bool) (xs : List X) (x : X) → find p xs ≡ Some x → Has x xs
 find-has p [] x e = cc e
 find-has p (z ∷ zs) x e = elim (cases_Bool (p z)) [

@@ -57,9 +57,6 @@ module _ (name : List ℕ × List ℕ) (at : Option Time) (t : Time) where
   unfolding select
   means c tables is = ap (select_at (machine_of c tables) name) (sym is)
 
-  pub select-future : (c : ClusterState) → t ≡ unwrap_or at c.clock → (refusal : Refusal) → refusal_if (time_lt c.clock t) (Future c.clock) ≡ Some refusal → Refuses c (λ m. select m name at) refusal
-  select-future c is refusal e tables k = means c tables is ∙ stops (machine_of c tables) (future_refusal (machine_of c tables) t) [] _ refusal e
-
   past : (c : ClusterState) (tables : List Table) → t ≡ unwrap_or at c.clock → refusal_if (time_lt c.clock t) (Future c.clock) ≡ None
       → select (machine_of c tables) name at ≡ with_table (machine_of c tables) name t (λ f. judged (machine_of c tables) (offline_refusal name f.schema ∷ collected_refusal f.table t ∷ []) (answered (machine_of c tables) (RowsShown (rows_at f t))))
   past c tables is e = means c tables is ∙ passes (machine_of c tables) (future_refusal (machine_of c tables) t) [] _ e
@@ -152,7 +149,7 @@ module _ (name : List ℕ × List ℕ) (g : Time) where
 -- ---- TICK
 
 abbrev pub reclocked : ClusterState → Time → ClusterState
-reclocked c t = record { name = c.name; most_events = c.most_events; clock = t; schemas = c.schemas; store = c.store; events = c.events; steps = c.steps; changes = c.changes }
+reclocked c t = record c { clock = t }
 
 pub ticked : (c : ClusterState) (wall : ℕ) (t : Time) → t ≡ time wall 0 → time_lt c.clock t ≡ true → (tables : List Table) → Keeps c tables → IsStepped (reclocked c t) (Response.Answered (ClockSet t)) (tick (machine_of c tables) wall)
 unfolding tick

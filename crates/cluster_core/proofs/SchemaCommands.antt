@@ -24,16 +24,12 @@ use Rattle.fact_model.proofs.TimeLaws.{le-refl}
 use Rattle.cluster_core.proofs.KeyKinds.{kinds-kept}
 use Rattle.cluster_core.proofs.Kept.{next-later, in_force-has, redated, keeps-as, keeps-new, keeps-described}
 use Rattle.cluster_core.proofs.Looking.{Sees, sees}
-use Rattle.cluster_core.proofs.Flow.{full, draws, missing, finds, passes, stops, does, catalog-is}
+use Rattle.cluster_core.proofs.Flow.{draws, missing, finds, passes, stops, does, catalog-is}
 
 -- ---- CREATE DATABASE
 
-pub database-refused : (c : ClusterState) (name : List ℕ) (refusal : Refusal) → catalog_refusal (database_fault c.schemas name) ≡ Some refusal → Refuses c (λ m. create_database m name) refusal
-unfolding create_database
-database-refused c name refusal e tables k = stops (machine_of c tables) (catalog_refusal (database_fault c.schemas name)) [] _ refusal e
-
 abbrev pub redefined : ClusterState → Schemas → ClusterState
-redefined c schemas = record { name = c.name; most_events = c.most_events; clock = c.clock; schemas = schemas; store = c.store; events = c.events; steps = c.steps; changes = c.changes }
+redefined c schemas = record c { schemas = schemas }
 
 pub database-made : (c : ClusterState) (name : List ℕ) → database_fault c.schemas name ≡ None → (tables : List Table) → Keeps c tables
     → IsStepped (redefined c (with_database c.schemas name)) (Response.Answered Plain) (create_database (machine_of c tables) name)
@@ -45,17 +41,6 @@ database-made c name fine tables k =
 -- ---- CREATE TABLE
 
 module _ (name : List ℕ × List ℕ) (columns : List (List ℕ × Kind)) (key : List (List ℕ × Bool)) (references : List (List ℕ × List ℕ)) where
-  pub table-full : (c : ClusterState) → next c.clock ≡ None → Refuses c (λ m. create_table m name columns key references) ClockFull
-  unfolding create_table
-  table-full c e tables k = full (machine_of c tables) _ e
-
-  pub table-refused : (c : ClusterState) (t : Time) → next c.clock ≡ Some t → (refusal : Refusal) → catalog_refusal (table_fault c.schemas t name columns key references) ≡ Some refusal
-      → Refuses c (λ m. create_table m name columns key references) refusal
-  unfolding create_table
-  table-refused c t draw refusal e tables k =
-      let m = machine_of c tables in
-      draws m _ t draw ∙ stops m (catalog_refusal (table_fault (catalog_of m) t name columns key references)) [] _ refusal (ap (λ (s : Schemas). catalog_refusal (table_fault s t name columns key references)) (catalog-is c tables k) ∙ e)
-
   pub table-made : (c : ClusterState) (t : Time) (id : ℕ) (schemas : Schemas) → next c.clock ≡ Some t → table_fault c.schemas t name columns key references ≡ None → id ≡ next_id c.schemas
       → schemas ≡ with_table c.schemas (first_schema c.schemas t name columns key references) → (tables : List Table) → Keeps c tables
       → IsStepped (redated c schemas t) (Response.Answered (TableMade id t)) (create_table (machine_of c tables) name columns key references)
@@ -90,10 +75,6 @@ unfolding changed_schema
 next_version d change at n bound = omega (arith, bound)
 
 module _ (name : List ℕ × List ℕ) (change : Change) where
-  pub alter-full : (c : ClusterState) → next c.clock ≡ None → Refuses c (λ m. alter m name change) ClockFull
-  unfolding alter
-  alter-full c e tables k = full (machine_of c tables) _ e
-
   pub alter-missing : (c : ClusterState) (t : Time) → next c.clock ≡ Some t → found_in c.schemas name t ≡ None → Refuses c (λ m. alter m name change) (NoSuchTable name)
   unfolding alter
   alter-missing c t draw e tables k = draws (machine_of c tables) _ t draw ∙ missing c tables name t _ k e
@@ -141,10 +122,6 @@ module _ (name : List ℕ × List ℕ) (change : Change) where
 -- ---- DROP TABLE
 
 module _ (name : List ℕ × List ℕ) where
-  pub drop-full : (c : ClusterState) → next c.clock ≡ None → Refuses c (λ m. drop_table m name) ClockFull
-  unfolding drop_table
-  drop-full c e tables k = full (machine_of c tables) _ e
-
   pub drop-missing : (c : ClusterState) (t : Time) → next c.clock ≡ Some t → found_in c.schemas name t ≡ None → Refuses c (λ m. drop_table m name) (NoSuchTable name)
   unfolding drop_table
   drop-missing c t draw e tables k = draws (machine_of c tables) _ t draw ∙ missing c tables name t _ k e

@@ -61,9 +61,6 @@ one-dropped s t id d e = rw e refl
 
 -- ---- a descriptor more
 
-pub within-more : (n : ℕ) (tables : List (List Schema)) → AreWithin n tables → AreWithin (n + 1) tables
-within-more n tables within ds d has is = let bound = within ds d has is in omega (arith, bound)
-
 has-set : {X : Type 0} (xs : List X) (i : ℕ) (x y : X) → Has y (slice_set xs i x) → Has y xs ⊎ (y ≡ x)
 has-set [] i x y has = inl has
 has-set (z ∷ zs) zero x y (inl e) = inr e

@@ -1,5 +1,5 @@
 -- What is seen of a cluster in memory.
-use Rattle.std.specs.Prelude.{ℕ, ◌≤◌, List}
+use Rattle.std.specs.Prelude.{ℕ, ◌≤◌, Bool, List}
 use Rattle.mvcc_keys.specs.Times.{Time}
 use Rattle.table_descriptors.specs.Descriptors.{Schema}
 use Rattle.fact_model.specs.Facts.{Has}
@@ -8,7 +8,7 @@ use Rattle.version_store.specs.declared.mvcc_map.MvccMap.{MvccMap}
 use Rattle.cluster_core.specs.declared.cluster.Cluster.TheInside.{Inside}
 
 -- its name; how many facts may ever be accepted; its clock, catalog and store; how many facts were accepted, commands executed
--- and descriptors made
+-- and descriptors made; whether a command ended it
 pub record ClusterState : Type 0 where
   pub name : List ℕ
   pub most_events : ℕ
@@ -18,9 +18,10 @@ pub record ClusterState : Type 0 where
   pub events : ℕ
   pub steps : ℕ
   pub changes : ℕ
+  pub ended : Bool
 
 abbrev pub view_of : Inside → ClusterState
-view_of c = record { name = c.name; most_events = c.most_events; clock = c.clock; schemas = c.catalog; store = c.rows; events = c.events; steps = c.steps; changes = c.changes }
+view_of c = record { name = c.name; most_events = c.most_events; clock = c.clock; schemas = c.catalog; store = c.rows; events = c.events; steps = c.steps; changes = c.changes; ended = c.ended }
 
 -- no descriptor has a greater version
 abbrev pub AreWithin : ℕ → List (List Schema) → Type 0

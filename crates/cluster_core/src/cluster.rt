@@ -1,15 +1,21 @@
 //! The cluster, and one step for each command.
-ghost use Rattle.std.specs.Prelude.{◌≡◌, ◌≤◌, ◌<◌, ◌+◌, List, IfOk};
+ghost use Rattle.std.specs.Prelude.{◌≡◌, ◌≢◌, ◌↔◌, ◌≤◌, ◌<◌, ◌+◌, true, false, List, Option, IfOk, IfErr, OnOk, OnErr};
 ghost use Rattle.mvcc_keys.specs.Times.{time_lt};
+ghost use Rattle.outside_world.specs.Moments.{ChangesOnly, LeavesOnly, NoName};
 ghost use Rattle.machine_model.specs.Machine.{World, Machine, empty_machine};
+ghost use Rattle.machine_model.specs.Disks.{IsReady, StandsUntil};
 ghost use Rattle.machine_model.specs.Tables.{tick};
 ghost use Rattle.machine_model.specs.Step.{step};
+ghost use Rattle.cluster_core.specs.declared.fault.RunFault.TheVariants as fault;
 ghost use Rattle.cluster_core.specs.Standing.{StandsFor, IsStepped, Does};
+ghost use Rattle.cluster_core.specs.Stepping.{IsReplied, RunHasCause};
 
+use crate::fault::RunFault;
 use crate::halts::Halt;
 use command_lang::Command;
-use mvcc_keys::{Hlc, Memory};
-use reply_texts::{Answer, Refusal, Response};
+use mvcc_keys::Hlc;
+use outside_world::Disk;
+use reply_texts::{Answer, Refusal, Reply, Response};
 use schema_catalog::Catalog;
 use std::alloc::Global;
 use std::marker::Model;
@@ -39,6 +45,8 @@ pub struct Cluster {
     pub(crate) steps: u32,
     /// How many descriptors were made.
     pub(crate) changes: u32,
+    /// Whether a command gave no reply.
+    ended: bool,
 }
 
 impl Model for Cluster {
@@ -68,6 +76,7 @@ impl Cluster {
         requires { limits.tables ≤ 4096 }
         ensures stands { StandsFor result (empty_machine name clock (record { events = limits.events; tables = limits.tables })) }
         ensures steps { result.steps ≡ 0 }
+        ensures ended { result.ended ≡ false }
     {
         Cluster {
             alloc,
@@ -79,6 +88,7 @@ impl Cluster {
             events: 0,
             steps: 0,
             changes: 0,
+            ended: false,
         }
     }
 
@@ -136,18 +146,54 @@ impl Cluster {
         }
     }
 
-    /// Executes a command. The open layers of other clusters, the worlds, have no part in what is
-    /// built so far.
-    pub fn step(&mut self, command: &Command) -> Result<Response, Memory>
-        requires { self.old.steps < 67108864 }
+    /// Carries out a command, and answers what its reply says.
+    fn respond(&mut self, command: &Command) -> Result<Response, RunFault>
+        requires { self.old.changes < self.old.steps }
         ensures step { IfOk result (λ r. (worlds : List World) (m : Machine) → StandsFor self.old m → IsStepped self.new r (step worlds m command.now)) }
-        ensures steps { self.new.steps ≡ self.old.steps + 1 }
+        ensures steps { self.new.steps ≡ self.old.steps }
+        ensures fault { IfErr result (λ e. e ≡ fault.Memory) }
     {
-        self.steps += 1;
         match self.execute(command) {
             Ok(answer) => Ok(Response::Answered(answer)),
             Err(Halt::Refused(refusal)) => Ok(Response::Refused(refusal)),
-            Err(Halt::Memory) => Err(Memory),
+            Err(Halt::Memory) => Err(RunFault::Memory),
         }
+    }
+
+    /// Carries out a command, and answers its reply.
+    fn reply(&mut self, command: &Command) -> Result<Reply, RunFault>
+        requires { self.old.changes < self.old.steps }
+        ensures step { IfOk result (λ r. (worlds : List World) (m : Machine) → StandsFor self.old m → IsReplied self.new r (step worlds m command.now)) }
+        ensures steps { self.new.steps ≡ self.old.steps }
+        ensures fault { IfErr result (λ e. e ≡ fault.Memory) }
+    {
+        let response = self.respond(command)?;
+        Ok(Reply::new(self.alloc, response)?)
+    }
+
+    /// Executes a command. It is called for each line of a script at most once, so fewer times than
+    /// a script may have bytes. The open layers of other clusters, the worlds, have no part in what
+    /// is built so far, and no command has to do with the disk.
+    pub fn step<D: Disk>(&mut self, command: &Command, disk: &mut D) -> Result<Reply, RunFault>
+        requires { self.old.steps < 67108864 }
+        ensures step { (worlds : List World) (m : Machine) (end : Option Machine) → StandsFor self.old m → IsReady end (D.view disk.old) →
+            IfOk result (λ r. IsReplied self.new r (step worlds m command.now)) }
+        ensures ready { (end : Option Machine) → IsReady end (D.view disk.old) → OnOk result (IsReady end (D.view disk.new)) }
+        ensures leaves { (end : Option Machine) → IsReady end (D.view disk.old) → LeavesOnly (D.view disk.old) (D.view disk.new) (StandsUntil end) }
+        ensures changes { ChangesOnly NoName NoName (D.view disk.old) (D.view disk.new) }
+        ensures steps { self.new.steps ≡ self.old.steps + 1 }
+        ensures going { OnOk result ((self.old.ended ≡ false) × (self.new.ended ≡ false)) }
+        ensures ended { OnErr result (self.new.ended ≡ true) }
+        ensures fault { IfErr result (λ e. (e ≡ fault.Ended) ↔ (self.old.ended ≡ true)) }
+        ensures cause { RunHasCause (D.view disk.old).faults (D.view disk.new).faults result }
+    {
+        let _ = &disk;
+        self.steps += 1;
+        if self.ended {
+            return Err(RunFault::Ended);
+        }
+        let done = self.reply(command);
+        self.ended = done.is_err();
+        done
     }
 }

@@ -1,7 +1,8 @@
 //! Why a command isn't carried out.
 ghost use Rattle.std.specs.Prelude.{◌≡◌};
 ghost use Rattle.cluster_core.specs.declared.halts.Halt.TheVariants.{Memory as no_memory};
-ghost use Rattle.cluster_core.specs.Halting.{halt_of_catalog, halt_of_rows};
+ghost use Rattle.machine_model.specs.Refusals.{refusal_of_catalog, refusal_of_rows};
+ghost use Rattle.cluster_core.specs.Halting.{halt_of};
 
 use mvcc_keys::Memory;
 use reply_texts::Refusal;
@@ -24,7 +25,7 @@ impl From<Memory> for Halt {
 }
 
 impl From<CatalogFault> for Halt {
-    ghost from_gives = { λ fault e. e ≡ halt_of_catalog fault };
+    ghost from_gives = { λ fault e. e ≡ halt_of (refusal_of_catalog fault) };
 
     fn from(fault: CatalogFault) -> Halt {
         match fault {
@@ -46,7 +47,7 @@ impl From<CatalogFault> for Halt {
 }
 
 impl From<RowsFault> for Halt {
-    ghost from_gives = { λ fault e. e ≡ halt_of_rows fault };
+    ghost from_gives = { λ fault e. e ≡ halt_of (refusal_of_rows fault) };
 
     fn from(fault: RowsFault) -> Halt {
         match fault {

@@ -2,7 +2,8 @@
 use crate::*;
 use command_lang::{Command, parse_line};
 use mvcc_keys::{Blob, Hlc};
-use reply_texts::{Reply, Response};
+use outside_world::SureDisk;
+use reply_texts::Reply;
 use std::alloc::Global;
 use std::test::Fail;
 use table_descriptors::Name;
@@ -18,26 +19,20 @@ fn command_of(alloc: Global, line: &[u8]) -> Result<Command, Fail> {
     Ok(command)
 }
 
-fn stepped(cluster: &mut Cluster, command: &Command) -> Result<Response, Fail> {
+fn stepped(alloc: Global, cluster: &mut Cluster, command: &Command) -> Result<Reply, Fail> {
     if cluster.steps() >= 100 {
         return Err("too many lines".into());
     }
-    Ok(cluster.step(command)?)
-}
-
-fn response(alloc: Global, cluster: &mut Cluster, line: &[u8]) -> Result<Response, Fail> {
-    let command = command_of(alloc, line)?;
-    stepped(cluster, &command)
-}
-
-fn text_of(alloc: Global, response: Response) -> Result<Blob, Fail> {
-    Ok(Reply::new(alloc, response)?.text)
+    let mut disk = SureDisk::new(alloc, Vec::new(alloc))?;
+    cluster
+        .step(command, &mut disk)
+        .map_err(|_| "no reply".into())
 }
 
 /// What a line is answered.
 fn answer(alloc: Global, cluster: &mut Cluster, line: &[u8]) -> Result<Blob, Fail> {
-    let response = response(alloc, cluster, line)?;
-    text_of(alloc, response)
+    let command = command_of(alloc, line)?;
+    Ok(stepped(alloc, cluster, &command)?.text)
 }
 
 fn answers(alloc: Global, cluster: &mut Cluster, lines: &[&[u8]]) -> Result<Vec<u8>, Fail> {

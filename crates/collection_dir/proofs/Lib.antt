@@ -5,3 +5,4 @@ pub mod WriteChunk
 pub mod OpenGate
 pub mod VersionLaws
 pub mod Removal
+pub mod StandsLaws

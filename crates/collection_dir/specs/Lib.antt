@@ -4,3 +4,4 @@ pub mod Footprints
 pub mod Safety
 pub mod Finishing
 pub mod Reading
+pub mod Standing

@@ -5,6 +5,7 @@ mod chunks;
 mod fault;
 mod finishing;
 mod forgetting;
+mod laws;
 mod objects;
 mod reading;
 mod versions;
@@ -13,6 +14,7 @@ pub use chunks::write_chunk;
 pub use fault::DirFault;
 pub use finishing::finish_layer;
 pub use forgetting::forget_layer;
+pub use laws::one_layer_may_change_in_either;
 pub use reading::{read_chunk, read_manifest};
 
 #[cfg(test)]

@@ -1,6 +1,7 @@
 //! Manifests: what a layer of a backup holds, and their bytes in both versions.
 #![tactic(auto)]
 
+mod copying;
 mod faults;
 mod items;
 mod manifest;

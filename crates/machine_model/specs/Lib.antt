@@ -4,3 +4,5 @@ pub mod Tables
 pub mod TableRows
 pub mod Step
 pub mod Script
+pub mod Disks
+pub mod Past

@@ -37,14 +37,15 @@ whole_lines (b ∷ bs) = if list_any (λ c. c == 10) (b ∷ bs) then b ∷ whole
 
 -- ---- what a script is answered
 
--- what is written, whether a reply is a refusal, and whether a line is malformed
+-- what is written, whether a reply is a refusal, whether a line is malformed, and the machine at the end
 pub record Outcome : Type 0 where
   pub text : List ℕ
   pub refused : Bool
   pub malformed : Bool
+  pub machine : Option Machine
 
-abbrev pub no_more : Outcome
-no_more = record { text = []; refused = false; malformed = false }
+abbrev pub no_more : Option Machine → Outcome
+no_more m = record { text = []; refused = false; malformed = false; machine = m }
 
 abbrev pub is_refusal : Response → Bool
 is_refusal (Refused refusal) = true
@@ -52,14 +53,14 @@ is_refusal (Answered answer) = false
 
 -- a reply, and then the outcome of what follows
 abbrev pub after_reply : Response → Outcome → Outcome
-after_reply r o = record { text = reply_text r ++ o.text; refused = is_refusal r || o.refused; malformed = o.malformed }
+after_reply r o = record { text = reply_text r ++ o.text; refused = is_refusal r || o.refused; malformed = o.malformed; machine = o.machine }
 
 -- the last line of a script with a malformed line
 abbrev pub malformed_text : ℕ → ℕ → List ℕ
 malformed_text line column = codes "malformed line=" ++ (decimal line ++ (codes " column=" ++ (decimal column ++ codes "\n")))
 
-abbrev pub malformed_at : ℕ → ℕ → Outcome
-malformed_at line column = record { text = malformed_text line column; refused = false; malformed = true }
+abbrev pub malformed_at : ℕ → ℕ → Option Machine → Outcome
+malformed_at line column m = record { text = malformed_text line column; refused = false; malformed = true; machine = m }
 
 -- the column of a line in which the script passes its limit, where it has these bytes before: that of the next byte, or the first
 -- past a line's limit
@@ -86,16 +87,16 @@ machine_of s = option_map (λ (x : Stepped). x.machine) s
 abbrev pub response_of : Option Stepped → Option Response
 response_of s = option_map (λ (x : Stepped). x.response) s
 
--- a reply and then an outcome; without a reply the line is malformed
+-- a reply and then an outcome; without a reply the line is malformed, and no command came before it
 abbrev pub reply_before : ℕ → Option Response → Outcome → Outcome
-reply_before line None o = malformed_at line 1
+reply_before line None o = malformed_at line 1 None
 reply_before line (Some r) o = after_reply r o
 
 -- what a line is answered, and then an outcome
 abbrev pub reading_before : List World → ℕ → Option Machine → Reading → Outcome → Outcome
 reading_before worlds n m Skipped o = o
 reading_before worlds n m (Reads c) o = reply_before n (response_of (command_step worlds m c)) o
-reading_before worlds n m (Malformed column) o = malformed_at n column
+reading_before worlds n m (Malformed column) o = malformed_at n column m
 
 -- the machine after a line
 abbrev pub machine_after : List World → Option Machine → Reading → Option Machine
@@ -109,8 +110,8 @@ read_at m line = reading (is_none m) line
 
 -- the outcome of lines from number n on, at this machine
 unfoldable pub outcome : List World → ℕ → Option Machine → List Line → Outcome
-outcome worlds n m [] = no_more
-outcome worlds n m (Beyond bytes ∷ ls) = malformed_at n (column_beyond bytes)
+outcome worlds n m [] = no_more m
+outcome worlds n m (Beyond bytes ∷ ls) = malformed_at n (column_beyond bytes) m
 outcome worlds n m (Within line ∷ ls) = reading_before worlds n m (read_at m line) (outcome worlds (n + 1) (machine_after worlds m (read_at m line)) ls)
 
 -- the outcome of a whole script, of at most 67,108,864 bytes

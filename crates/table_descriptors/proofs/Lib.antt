@@ -4,3 +4,4 @@ pub mod ListLaws
 pub mod SchemaLaws
 pub mod DescriptorLaws
 pub mod DescriptorLengths
+pub mod Restores

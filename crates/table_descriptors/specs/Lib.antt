@@ -3,3 +3,4 @@ pub mod Fields
 pub mod Descriptors
 pub mod DescriptorFiles
 pub mod DescriptorView
+pub mod Restoring

@@ -19,7 +19,7 @@ pub(crate) fn has_column(columns: &[Column], name: &Name) -> bool
     columns.iter().any(|column| column.name.is_same(name))
 }
 
-fn copies(alloc: Global, columns: &[Column]) -> Result<Vec<Column>, Memory>
+pub(crate) fn copies(alloc: Global, columns: &[Column]) -> Result<Vec<Column>, Memory>
     ensures made { IfOk result (λ v. v.items ≡ columns.now) }
     ensures named { IfOk result (λ v. list_all (λ c. is_name c.name) v.items ≡ true) }
 {

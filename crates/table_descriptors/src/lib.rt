@@ -10,6 +10,7 @@ mod faults;
 mod fields;
 mod key_names;
 mod names;
+mod restored;
 mod rules;
 mod scopes;
 

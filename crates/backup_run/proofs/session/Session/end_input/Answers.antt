@@ -5,16 +5,16 @@ use Rattle.backup_run.proofs.Saying.{end_last, end_goes_on, nothing_left}
 use Rattle.backup_run.proofs.session.Session.end_input.Goals as goal
 
 pub returns-then-is_amid_line-clause-malformed : goal.returns-then-is_amid_line-clause-malformed
-returns-then-is_amid_line-clause-malformed c =
+returns-then-is_amid_line-clause-malformed g c = λ worlds m here.
     let some : 0 < length c.args.self.now.pending = grind (arith, nat_tests) in
-    end_last c.args.self.now c.end_line.result some c.end_line.ensures.malformed
+    end_last worlds c.args.self.now _ m c.end_line.result some here (c.end_line.ensures.malformed worlds m)
 
-pub returns-then-is_amid_line-clause-goes_on : goal.returns-then-is_amid_line-clause-goes_on
-returns-then-is_amid_line-clause-goes_on c =
+pub returns-then-is_amid_line-clause-whole : goal.returns-then-is_amid_line-clause-whole
+returns-then-is_amid_line-clause-whole g c = λ worlds m here.
     let some : 0 < length c.args.self.now.pending = grind (arith, nat_tests) in
-    end_goes_on c.args.self.now c.end_line.new.self c.end_line.result some c.end_line.ensures.goes_on
+    end_goes_on worlds c.args.self.now c.end_line.new.self _ m c.end_line.result some here (c.end_line.ensures.goes_on worlds m)
 
-pub returns-clause-goes_on : goal.returns-clause-goes_on
-returns-clause-goes_on c = λ _ worlds m stands.
+pub returns-clause-whole : goal.returns-clause-whole
+returns-clause-whole g c = λ worlds m here t.
     let none : length c.args.self.now.pending ≡ 0 = grind (arith, nat_tests) in
     nothing_left worlds (at_of c.args.self.now m) c.nothing_said.result.text.items none c.nothing_said.ensures.text

@@ -1,0 +1,33 @@
+-- What a step answers, and what it leaves of the disk.
+use Rattle.std.specs.Prelude.{◌≡◌, ◌≤◌, ◌-◌, ◌^◌, ℕ, Result, MatchResult}
+use Rattle.outside_world.specs.Causes.{Rose}
+use Rattle.reply_texts.specs.declared.replies.Reply.{Reply}
+use Rattle.reply_texts.specs.declared.replies.Response.{Response}
+use Rattle.reply_texts.specs.Texts.{reply_text, refusal_of}
+use Rattle.machine_model.specs.Machine.{Stepped}
+use Rattle.cluster_core.specs.declared.fault.RunFault.{RunFault}
+use Rattle.cluster_core.specs.declared.fault.RunFault.TheVariants.{Disk, Memory, Ended}
+use Rattle.cluster_core.specs.ClusterView.{ClusterState}
+use Rattle.cluster_core.specs.Standing.{StandsFor}
+
+-- the reply of a response: its text, and the refusal if it is one
+pub record IsReplyOf (response : Response) (reply : Reply) : Type 0 where
+  pub text_is : reply.text ≡ reply_text response
+  pub refusal_is : reply.refusal ≡ refusal_of response
+
+-- after a step the cluster stands for its machine, and the reply is its reply
+pub record IsReplied (c : ClusterState) (reply : Reply) (s : Stepped) : Type 0 where
+  pub stands : StandsFor c s.machine
+  pub reply_is : IsReplyOf s.response reply
+
+-- the disk failed just where the fault says so
+abbrev pub CountsAs : RunFault → ℕ → ℕ → Type 0
+CountsAs Disk before now = Rose before now
+CountsAs Memory before now = now ≡ before
+CountsAs Ended before now = now ≡ before
+
+-- the count of the disk's faults never falls and stays in 64 bits; it rose where the answer is Disk, and is as before at every other
+pub record RunHasCause {T : Type 0} (before now : ℕ) (result : Result T RunFault) : Type 0 where
+  pub later : before ≤ now
+  pub capped : before ≤ 2 ^ 64 - 1 → now ≤ 2 ^ 64 - 1
+  pub counts : MatchResult result (λ _. now ≡ before) (λ e. CountsAs e before now)

@@ -1,0 +1,3 @@
+pub mod Publicity
+pub mod Spans
+pub mod PlanLaws

@@ -1,0 +1,5 @@
+pub mod Places
+pub mod Joins
+pub mod LayerOrder
+pub mod FullTimes
+pub mod Carried
