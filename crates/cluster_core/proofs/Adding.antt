@@ -18,7 +18,8 @@ use Rattle.machine_model.specs.Refusals.{rows_refusal}
 use Rattle.machine_model.specs.TableRows.{adding, with_facts as with_rows, room_refusal, extended}
 use Rattle.cluster_core.specs.ClusterView.{ClusterState}
 use Rattle.cluster_core.specs.Finding.{found_in}
-use Rattle.cluster_core.specs.Standing.{Keeps, machine_of, IsStepped, Refuses, rows_of, table_kinds, by_id}
+use Rattle.layer_objects.specs.Objects.{rows_of, table_kinds, by_id}
+use Rattle.cluster_core.specs.Standing.{Keeps, machine_of, IsStepped, Refuses}
 use Rattle.cluster_core.proofs.Tables.{by_id-at}
 use Rattle.cluster_core.proofs.Kept.{next-later, in_force-has, grown, keeps-more, may-add}
 use Rattle.cluster_core.proofs.Looking.{Sees, sees}

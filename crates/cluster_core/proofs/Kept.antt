@@ -22,7 +22,8 @@ use Rattle.machine_model.specs.Machine.{empty_machine}
 use Rattle.machine_model.specs.Tables.{described, new_table}
 use Rattle.machine_model.specs.TableRows.{extended, raised}
 use Rattle.cluster_core.specs.ClusterView.{ClusterState}
-use Rattle.cluster_core.specs.Standing.{table_kinds, kinds_of, table_facts, table_threshold, rows_of, IsOwn, IsOrderly, Keeps, StandsFor, by_id}
+use Rattle.layer_objects.specs.Objects.{table_kinds, kinds_of, table_facts, table_threshold, rows_of, by_id}
+use Rattle.cluster_core.specs.Standing.{IsOwn, IsOrderly, Keeps, StandsFor}
 use Rattle.cluster_core.proofs.Lists.{got-set, got-set_other, map-set, set-same, got-push, find-has}
 use Rattle.cluster_core.proofs.Tables.{by_id-at, rows-same, rows-more, rows-raised, rows-new}
 

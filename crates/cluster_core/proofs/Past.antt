@@ -29,7 +29,8 @@ use Rattle.machine_model.specs.Refusals.{catalog_refusal, rows_refusal}
 use Rattle.machine_model.specs.Tables.{tick, create_database, create_table, new_table, with_new_table, alter, drop_table, described, with_descriptor, redescribed}
 use Rattle.machine_model.specs.TableRows.{adding, room_refusal, upsert, delete, delete_range, select, select_at, rows_at, future_refusal, collected_refusal, collect, raised, with_threshold, extended, with_facts}
 use Rattle.machine_model.specs.Step.{step}
-use Rattle.machine_model.specs.Past.{IsLonger, KeepsPast, IsLater, StepsAreLater}
+use Rattle.layer_objects.specs.Past.{IsLonger, KeepsPast}
+use Rattle.machine_model.specs.Past.{IsLater, StepsAreLater}
 use Rattle.cluster_core.proofs.Kept.{next-later}
 use Rattle.cluster_core.proofs.Lists.{got-set, got-set_other, got-push, got-front}
 

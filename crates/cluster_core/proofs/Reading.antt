@@ -22,7 +22,8 @@ use Rattle.machine_model.specs.Tables.{tick}
 use Rattle.machine_model.specs.TableRows.{select, select_at, collect, future_refusal, collected_refusal, rows_at, raised, with_threshold as with_raised}
 use Rattle.cluster_core.specs.ClusterView.{ClusterState}
 use Rattle.cluster_core.specs.Finding.{found_in}
-use Rattle.cluster_core.specs.Standing.{Keeps, machine_of, IsStepped, Refuses, Does, rows_of, table_kinds, table_facts, table_threshold, by_id}
+use Rattle.layer_objects.specs.Objects.{rows_of, table_kinds, table_facts, table_threshold, by_id}
+use Rattle.cluster_core.specs.Standing.{Keeps, machine_of, IsStepped, Refuses, Does}
 use Rattle.cluster_core.proofs.Lists.{got-set}
 use Rattle.cluster_core.proofs.Tables.{by_id-at}
 use Rattle.fact_model.proofs.TimeLaws.{le-from_lt}

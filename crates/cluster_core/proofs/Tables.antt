@@ -10,7 +10,7 @@ use Rattle.history_model.specs.Rows.{RowFact}
 use Rattle.history_model.specs.Histories.{Table}
 use Rattle.version_store.specs.Tables.{Tables}
 use Rattle.table_rows.specs.RowTables.{RowTables, HasRows, IsRowFact, coded, with_facts, with_threshold}
-use Rattle.cluster_core.specs.Standing.{by_id, table_kinds, table_facts, table_threshold, rows_of}
+use Rattle.layer_objects.specs.Objects.{by_id, table_kinds, table_facts, table_threshold, rows_of}
 use Rattle.cluster_core.proofs.Lists.{got-set, got-set_other}
 
 module _ {X : Type 0} (none : X) (f : Table → X) where

@@ -8,6 +8,7 @@ use Rattle.history_model.specs.Rows.{RowFact}
 use Rattle.history_model.specs.Histories.{Table, schemas_of, accepted}
 use Rattle.version_store.specs.MapHolding.{KeepsAll}
 use Rattle.table_rows.specs.RowTables.{RowTables, HasRows}
+use Rattle.layer_objects.specs.Objects.{rows_of, table_kinds}
 use Rattle.reply_texts.specs.declared.refusals.Refusal.{Refusal}
 use Rattle.reply_texts.specs.declared.answers.Answer.{Answer}
 use Rattle.reply_texts.specs.declared.replies.Response.{Response}
@@ -16,29 +17,6 @@ use Rattle.machine_model.specs.Machine.{Machine, Stepped, refused}
 use Rattle.cluster_core.specs.declared.halts.Halt.{Halt}
 use Rattle.cluster_core.specs.declared.halts.Halt.TheVariants.{Refused, Memory}
 use Rattle.cluster_core.specs.ClusterView.{ClusterState}
-
--- ---- tables by their ids, from 100 on
-
-abbrev pub by_id : {X : Type 0} → X → (Table → X) → List Table → ℕ → X
-by_id none f tables id = if nat_lt id 100 then none else unwrap_or (option_map f (slice_get tables (id - 100))) none
-
--- the kinds of the key columns, which never change
-abbrev pub kinds_of : List Schema → List Kind
-kinds_of [] = []
-kinds_of (d ∷ ds) = key_kinds d
-
-abbrev pub table_kinds : Table → List Kind
-table_kinds table = kinds_of table.descriptors
-
-abbrev pub table_facts : Table → List RowFact
-table_facts table = table.facts
-
-abbrev pub table_threshold : Table → Time
-table_threshold table = table.threshold
-
--- the facts of each table
-abbrev pub rows_of : List Table → RowTables
-rows_of tables = record { kinds = by_id [] table_kinds tables; facts = by_id [] table_facts tables; threshold = by_id zero_time table_threshold tables }
 
 -- ---- what is true of the tables of a cluster
 

@@ -2,10 +2,11 @@
 #![tactic(auto)]
 
 mod answers;
+mod backups;
 mod refusals;
 mod replies;
 mod rows;
 
-pub use answers::{Answer, put_answer};
+pub use answers::{Answer, RestoredTable, put_answer};
 pub use refusals::{Refusal, put_refusal};
 pub use replies::{Reply, Response};

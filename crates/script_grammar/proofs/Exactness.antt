@@ -169,9 +169,6 @@ upto_assoc {A = A} f h g n right ts short =
 pub part_then : {A B : Type 0} (f : Form A) (h : A → Form B) → IsPart f → ((a : A) → IsRest (h a)) → IsPart (f >>= h)
 part_then f h part rest C n g right = upto_assoc f h g (suc n) (part C n (λ a. h a >>= g) (λ a. rest a C n g right))
 
-pub rest_then : {A B : Type 0} (f : Form A) (h : A → Form B) → IsRest f → ((a : A) → IsRest (h a)) → IsRest (f >>= h)
-rest_then f h part rest C n g right = upto_assoc f h g n (part C n (λ a. h a >>= g) (λ a. rest a C n g right))
-
 pub give_then : {A B : Type 0} (a : A) (g : A → Form B) (n : ℕ) → ReadsUpTo n (g a) → ReadsUpTo n (give a >>= g)
 give_then a g n right ts short =
     same_lists (Lists (g a)) (Lists (give a >>= g)) ts ((g a).read ts)
@@ -290,11 +287,6 @@ pub repeat_then : {A B : Type 0} (starts : Token → Bool) (f : Form A) → IsPa
     → ReadsUpTo n (repeated starts f >>= g)
 repeat_then starts f part wants n g right refuses =
     repeat_before starts (λ _. false) f (part_before f part) wants (λ t hit. absurd (apart false refl hit)) n g right refuses (λ os t ts b rest hit l. apart false refl hit)
-
-pub repeat_rest : {A B : Type 0} (starts : Token → Bool) (f : Form A) (h : List A → Form B) → IsPart f → Wants starts f
-    → ((os : List A) → IsRest (h os)) → ((os : List A) → Refuses starts (h os)) → IsRest (repeated starts f >>= h)
-repeat_rest starts f h part wants rest refuses C n g right =
-    upto_assoc (repeated starts f) h g n (repeat_then starts f part wants n (λ os. h os >>= g) (λ os. rest os C n g right) (λ os. refuses_then starts (h os) g (refuses os)))
 
 -- ---- what lists begin with
 

@@ -4,4 +4,5 @@ pub mod Lexing
 pub mod PartsExact
 pub mod Repeating
 pub mod Rights
+pub mod SourceTexts
 pub mod WordNames

@@ -1,6 +1,8 @@
 -- The parts of forms are read exactly as they are defined.
 use Rattle.std.proofs.Common.{◌≡◌, ℕ, pos, Bool, true, false, List, [], ◌∷◌, codes, Option, Some, None, is_some, refl}
 use Rattle.std.specs.Str.{bytes_eq}
+use Rattle.std.specs.List.{fold}
+use Rattle.table_descriptors.specs.Names.{is_name}
 use Rattle.mvcc_keys.specs.Times.{Time, time}
 use Rattle.mvcc_keys.specs.TimeTexts.{read_time, read_digits}
 use Rattle.row_codec.specs.declared.rows.Datum.{Datum}
@@ -9,10 +11,12 @@ use Rattle.row_codec.specs.declared.rows.Datum.TheVariants.{Null}
 use Rattle.row_codec.specs.declared.rows.Kind.TheVariants.{Int as IntKind}
 use Rattle.script_grammar.specs.declared.token.Token.{Token}
 use Rattle.script_grammar.specs.declared.token.Token.TheVariants.{Word, Number, Text, Bytes, Mark, Bad}
-use Rattle.script_grammar.specs.Grammar.{Form, give, one, fits, word, is_word, mark, is_mark, repeated, maybe_one, ending, ◌>>=◌, ◌>>◌}
-use Rattle.script_grammar.specs.Parts.{name, name_of_token, new_name_of, count_of, kind_of, datum_of, time_of, order_of, table, row, rows, time_given, asof, column, column_and_comma, starts_column, columns, key_column, key, reference, references, PartsAreExact}
+use Rattle.script_grammar.specs.Grammar.{Form, give, one, fits, word, is_word, mark, is_mark, repeated, listed, maybe_one, ending, ◌>>=◌, ◌>>◌}
+use Rattle.script_grammar.specs.Parts.{name, name_of_token, new_name_of, count_of, kind_of, datum_of, time_of, order_of, table, row, rows, time_given, asof, column, column_and_comma, starts_column, columns, key_column, key, reference, references, collection_of, source_of, in_collection, source_in, with_table, tables, restore_option, new_name_after, restore_options_given, restore_options, PartsAreExact}
+use Rattle.script_grammar.specs.declared.backups.Src.TheVariants.{Latest}
+use Rattle.script_grammar.specs.declared.backups.RestoreOption.{RestoreOption}
 use Rattle.script_grammar.proofs.Exactness.{IsPart, IsPartBefore, one_part, part_rest, part_then, part_before, part_before_then, give_rest, give_then, upto_assoc, repeat_then, listed_rest, either_then, apart, wants_bare, refuses_one, refuses_give, word_part, mark_part}
-use Rattle.script_grammar.proofs.Rights.{IsRight, Bars, Opens, explained, then_, word_, then_before_, end_, give_, repeat_, listed_, either_, fits_none, opens_mark, opens_word, bars_mark_mark, bars_mark_end, bars_word_end, bars_give, bars_then, bars_one, opens_one}
+use Rattle.script_grammar.proofs.Rights.{IsRight, Bars, Opens, explained, then_, word_, then_before_, end_, give_, repeat_, listed_, either_, assoc_, fits_none, opens_mark, opens_word, bars_mark_mark, bars_mark_end, bars_word_end, bars_word_either, bars_give, bars_then, bars_one, opens_one}
 use Rattle.script_grammar.proofs.Families.{Family, family, or_, making_family, lead_word, lead_table, lead_end}
 
 -- ---- one token
@@ -179,6 +183,55 @@ reference_opens = opens_mark 44 _
 pub references_ : {B : Type 0} (k : List (List ℕ × List ℕ) → Form B) → ((rs : List (List ℕ × List ℕ)) → IsRight (k rs)) → ((rs : List (List ℕ × List ℕ)) → Bars (is_mark 44) (k rs)) → IsRight (references >>= k)
 references_ k right bars = repeat_ (is_mark 44) reference k reference_part reference_opens right bars
 
+-- ---- backups
+
+pub collection_part : IsPart (one collection_of)
+unfolding is_name
+collection_part = one_part collection_of (Text (codes "a")) (codes "a") refl
+
+source_part : IsPart (one source_of)
+source_part = one_part source_of (Word (codes "latest")) Latest refl
+
+pub source_in_part : IsPart source_in
+unfolding source_in
+source_in_part = part_then (one source_of) in_collection source_part (λ s. part_rest _ (part_then _ _ (word_part (codes "in") refl) (λ _. part_rest _ (part_then (one collection_of) _ collection_part (λ c. give_rest _)))))
+
+-- tables, and then what begins with no comma
+pub tables_ : {B : Type 0} (k : List (List ℕ × List ℕ) → Form B) → ((ts : List (List ℕ × List ℕ)) → IsRight (k ts)) → ((ts : List (List ℕ × List ℕ)) → Bars (is_mark 44) (k ts)) → IsRight (tables >>= k)
+unfolding tables
+tables_ k right bars =
+    assoc_ (listed table) (λ ts. give (fold with_table [] ts)) k
+    (listed_ table (λ ts. give (fold with_table [] ts) >>= k) table_part (λ ts. give_ _ k (right _)) (λ ts. bars_give (is_mark 44) _ k (bars _)))
+
+restore_option_part : IsPart restore_option
+unfolding restore_option
+restore_option_part = part_then _ _ (word_part (codes "new_db_name") refl) (λ _. part_rest _ (part_then (mark 61) _ (mark_part 61 refl) (λ _. part_rest _ (part_then (one collection_of) _ collection_part (λ c. give_rest _)))))
+
+restore_options_given_opens : Opens (is_word (codes "with")) restore_options_given
+unfolding restore_options_given
+restore_options_given_opens = opens_word (codes "with") _
+
+restore_options_given_ : {B : Type 0} (k : Option (List ℕ) → Form B) → ((n : Option (List ℕ)) → IsRight (k n)) → ((n : Option (List ℕ)) → Bars (is_mark 44) (k n)) → IsRight (restore_options_given >>= k)
+unfolding restore_options_given
+restore_options_given_ k right bars =
+    assoc_ (word (codes "with")) (λ _. listed restore_option >>= chosen) k (word_ (codes "with") _ refl
+    (assoc_ (listed restore_option) chosen k
+    (listed_ restore_option (λ os. chosen os >>= k) restore_option_part (λ os. give_ _ k (right _)) (λ os. bars_give (is_mark 44) _ k (bars _)))))
+  where
+    chosen : List RestoreOption → Form (Option (List ℕ))
+    chosen os = give (fold new_name_after None os)
+
+-- `[WITH option {, option}]`, and then what begins with no comma, and not with WITH
+pub restore_options_ : {B : Type 0} (k : Option (List ℕ) → Form B) → ((n : Option (List ℕ)) → IsRight (k n)) → ((n : Option (List ℕ)) → Bars (is_mark 44) (k n)) → Bars (is_word (codes "with")) (k None) → IsRight (restore_options >>= k)
+unfolding restore_options
+restore_options_ k right commas bars = either_ (is_word (codes "with")) restore_options_given (give None) k restore_options_given_opens
+    (restore_options_given_ k right commas) (give_ None k (right None)) (bars_give (is_word (codes "with")) None k bars)
+
+-- options don't begin with another word
+pub restore_options_bar : {B : Type 0} (w : List ℕ) (k : Option (List ℕ) → Form B) → is_word (codes "with") (Word w) ≡ false → Bars (is_word w) (k None) → Bars (is_word w) (restore_options >>= k)
+unfolding restore_options
+restore_options_bar w k is bars = bars_word_either w (codes "with") restore_options_given (give None) k restore_options_given_opens is (bars_give (is_word w) None k bars)
+
 -- ---- the law
 
 pub parts_exact : PartsAreExact
@@ -191,6 +244,10 @@ parts_exact = record {
   a_column = explained _ (then_ column _ column_part (λ c. end_ c));
   some_columns = explained _ (then_before_ starts_column columns _ columns_part (λ cs. then_ key _ key_part (λ ks. references_ _ (λ rs. end_ _) (λ rs. bars_mark_end 44 _ refl))) (λ cs. key_then_bars_column _));
   a_choice = explained _ (or_ _ _ _ _ (led_by (codes "key") refl) (making_family _ _ _ (led_by (codes "references") refl)) refl).right;
+  a_source = explained _ (then_ source_in _ source_in_part (λ s. end_ s));
+  some_tables = explained _ (tables_ _ (λ ts. end_ ts) (λ ts. bars_mark_end 44 ts refl));
+  some_options = explained _ (asof_ _ (λ t. restore_options_ _ (λ n. end_ (t, n)) (λ n. bars_mark_end 44 (t, n) refl) (bars_word_end (codes "with") (t, None)))
+      (restore_options_bar (codes "as") _ refl (bars_word_end (codes "as") (None, None))));
 }
   where
     led_by : (w : List ℕ) → fits (is_word w) (Word w) ≡ Some tt → Family ((Some w ∷ None ∷ None ∷ None ∷ []) ∷ []) (word w >> (table >>= (λ t. ending t)))

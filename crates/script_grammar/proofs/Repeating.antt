@@ -11,11 +11,6 @@ pub stopped : {A : Type 0} (n : ℕ) (starts : Token → Bool) (item : List Toke
 stopped zero starts item before ts stops = ap (λ xs. Read xs ts) (append-nil before)
 stopped (suc n) starts item before ts stops = rw stops (ap (λ xs. Read xs ts) (append-nil before))
 
-pub ran_out : {A : Type 0} (n : ℕ) (starts : Token → Bool) (item : List Token → Progress A) (before : List A) (ts : List Token)
-    → n ≡ 0 → with_front before (read_within n starts item ts) ≡ Read before ts
-ran_out zero starts item before ts stops = ap (λ xs. Read xs ts) (append-nil before)
-ran_out (suc n) starts item before ts stops = absurd (omega arith)
-
 front_front : {A : Type 0} (before : List A) (a : A) (more : Progress (List A))
     → with_front before (and_read more (λ others end. Read (a ∷ others) end)) ≡ with_front (before ++ a ∷ []) more
 front_front before a (Read others rest) = ap (λ xs. Read xs rest) (sym (append_assoc before (a ∷ []) others))

@@ -1,14 +1,20 @@
 -- The parts that forms of lines share.
-use Rattle.std.specs.Prelude.{ℕ, ℤ, pos, negsuc, Bool, true, false, List, ◌∷◌, codes, Option, Some, None, if◌then◌else◌, ◌||◌, is_some}
+use Rattle.std.specs.Prelude.{◌≡◌, ℕ, ℤ, pos, negsuc, Bool, true, false, not, List, [], ◌∷◌, ◌++◌, length, take, drop, codes, Option, Some, None, if◌then◌else◌, ◌==◌, ◌&&◌, ◌||◌, is_some}
+use Rattle.std.specs.List.{take_while, list_any, fold}
 use Rattle.std.specs.Str.{bytes_eq}
-use Rattle.mvcc_keys.specs.Times.{Time}
-use Rattle.mvcc_keys.specs.TimeTexts.{read_time}
+use Rattle.mvcc_keys.specs.Times.{Time, IsTime}
+use Rattle.mvcc_keys.specs.TimeTexts.{time_text, read_time}
 use Rattle.row_codec.specs.declared.rows.Datum.{Datum}
 use Rattle.row_codec.specs.declared.rows.Datum.TheVariants.{Int, Bool as Truth, Null, Text as TextDatum, Bytes as BytesDatum}
 use Rattle.row_codec.specs.declared.rows.Kind.{Kind}
 use Rattle.row_codec.specs.declared.rows.Kind.TheVariants.{Int as IntKind, Text as TextKind, Bytes as BytesKind, Bool as BoolKind}
+use Rattle.table_descriptors.specs.Names.{is_name, name_of}
 use Rattle.script_grammar.specs.Grammar.{Form, ◌>>=◌, ◌>>◌, give, one, word, mark, is_word, is_mark, repeated, listed, either, maybe_one, ending, ◌making◌, ◌or◌}
 use Rattle.script_grammar.specs.Columns.{IsExact}
+use Rattle.script_grammar.specs.declared.backups.Src.{Src}
+use Rattle.script_grammar.specs.declared.backups.Src.TheVariants.{Latest, Named}
+use Rattle.script_grammar.specs.declared.backups.RestoreOption.{RestoreOption}
+use Rattle.script_grammar.specs.declared.backups.RestoreOption.TheVariants.{NewName}
 use Rattle.script_grammar.specs.declared.token.Token.{Token}
 use Rattle.script_grammar.specs.declared.token.Token.TheVariants.{Word, Number, Text, Bytes, Mark, Bad}
 
@@ -192,6 +198,105 @@ references = repeated (is_mark 44) reference
 abbrev pub rows : Form (List (List Datum))
 rows = listed row
 
+-- ---- backups
+
+-- a text that is a name
+abbrev pub collection_of : Token → Option (List ℕ)
+collection_of (Word v) = None
+collection_of (Number n) = None
+collection_of (Text s) = name_of s
+collection_of (Bytes s) = None
+collection_of (Mark b) = None
+collection_of Bad = None
+
+abbrev pub is_no_slash : ℕ → Bool
+is_no_slash b = not (b == 47)
+
+-- the place of the first slash, and the length where none is there
+abbrev pub slash_at : List ℕ → ℕ
+slash_at s = length (take_while is_no_slash s)
+
+-- the time after a slash
+abbrev pub time_after : List ℕ → Option Time
+time_after [] = None
+time_after (slash ∷ text) = read_time text
+
+abbrev pub named_source : Option (List ℕ) → Option Time → Option Src
+named_source (Some cluster) (Some full) = Some (Named cluster full)
+named_source (Some cluster) None = None
+named_source None full = None
+
+-- a name, `/` and a time: what stands before the first `/`, which a name has none of, and what stands after it
+unfoldable pub source_text : List ℕ → Option Src
+source_text s = named_source (name_of (take (slash_at s) s)) (time_after (drop (slash_at s) s))
+
+-- a text is read as the one source whose text it is
+pub record SourcesAreExact : Type 0 where
+  pub found : (cluster : List ℕ) (full : Time) → is_name cluster ≡ true → IsTime full → source_text (cluster ++ 47 ∷ time_text full) ≡ Some (Named cluster full)
+  pub only : (text cluster : List ℕ) (full : Time) → source_text text ≡ Some (Named cluster full) → (is_name cluster ≡ true) × IsTime full × (text ≡ cluster ++ 47 ∷ time_text full)
+
+-- the word LATEST
+abbrev pub source_word : List ℕ → Option Src
+source_word w = if bytes_eq w (codes "latest") then Some Latest else None
+
+-- LATEST | a text that is a name, `/` and a time
+abbrev pub source_of : Token → Option Src
+source_of (Word v) = source_word v
+source_of (Number n) = None
+source_of (Text s) = source_text s
+source_of (Bytes s) = None
+source_of (Mark b) = None
+source_of Bad = None
+
+-- a source, and then IN coll
+abbrev pub in_collection : Src → Form (Src × List ℕ)
+in_collection s = do
+  word (codes "in")
+  c ← one collection_of
+  give (s, c)
+
+-- src IN coll
+unfoldable pub source_in : Form (Src × List ℕ)
+source_in = do
+  s ← one source_of
+  in_collection s
+
+abbrev pub is_table : List ℕ × List ℕ → List ℕ × List ℕ → Bool
+is_table t u = bytes_eq t.0 u.0 && bytes_eq t.1 u.1
+
+-- a table after others, unless it is one of them
+abbrev pub with_table : List (List ℕ × List ℕ) → List ℕ × List ℕ → List (List ℕ × List ℕ)
+with_table ts t = if list_any (is_table t) ts then ts else ts ++ t ∷ []
+
+-- tbl {, tbl}: each table once, at its first place
+unfoldable pub tables : Form (List (List ℕ × List ℕ))
+tables = do
+  ts ← listed table
+  give (fold with_table [] ts)
+
+-- NEW_DB_NAME = coll
+unfoldable pub restore_option : Form RestoreOption
+restore_option = do
+  word (codes "new_db_name")
+  mark 61
+  c ← one collection_of
+  give (NewName c)
+
+-- the name that a restored database gets, after one more option
+abbrev pub new_name_after : Option (List ℕ) → RestoreOption → Option (List ℕ)
+new_name_after before (NewName n) = Some n
+
+-- WITH option {, option}: of the options of a kind the last counts
+unfoldable pub restore_options_given : Form (Option (List ℕ))
+restore_options_given = do
+  word (codes "with")
+  os ← listed restore_option
+  give (fold new_name_after None os)
+
+-- [WITH option {, option}]
+unfoldable pub restore_options : Form (Option (List ℕ))
+restore_options = either (is_word (codes "with")) restore_options_given (give None)
+
 -- ---- the law of parts
 
 -- lines of one part alone, and those of the columns, the key and the references of a table
@@ -201,6 +306,13 @@ columns_alone = do
   ks ← key
   rs ← references
   ending (cs, ks, rs)
+
+-- a time and options, each of which may be absent
+abbrev pub options_alone : Form (Option Time × Option (List ℕ))
+options_alone = do
+  t ← asof
+  n ← restore_options
+  ending (t, n)
 
 -- one of two forms with unlike first words
 abbrev pub choice_alone : Form (List ℕ × List ℕ)
@@ -216,3 +328,6 @@ pub record PartsAreExact : Type 0 where
   pub a_column : IsExact (column >>= (λ c. ending c))
   pub some_columns : IsExact columns_alone
   pub a_choice : IsExact choice_alone
+  pub a_source : IsExact (source_in >>= (λ s. ending s))
+  pub some_tables : IsExact (tables >>= (λ ts. ending ts))
+  pub some_options : IsExact options_alone

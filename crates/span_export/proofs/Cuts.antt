@@ -55,11 +55,12 @@ pieces-given (suc room) n es up pos done (x ∷ left) cursor l e is =
     let rest = pieces-given room n es up pos (done ++ take n (x ∷ left)) (drop n (x ∷ left)) (cursor_after cursor (take n (x ∷ left))) fits (split n es done (x ∷ left) e) (next n es up done (x ∷ left) cursor e is) in
     (take n (x ∷ left) ∷ rest.0, (sym (ap (take n) is), rest.1))
 
-nothing-given : (es : List Entry) → after_place None es ≡ es
+pub nothing-given : (es : List Entry) → after_place None es ≡ es
 nothing-given es = filter-all (is_left None) es (λ x h. refl)
 
 pub pieces-whole : PiecesAreWhole
 pieces-whole = record {
   whole = λ h table plan n pieces are. pieces-joined n (plan_entries h table plan) (plan-sorted h table plan) [] (plan_entries h table plan) None pieces refl (nothing-given (plan_entries h table plan)) are;
   given = λ h table plan n pos. pieces-given (length (plan_entries h table plan)) n (plan_entries h table plan) (plan-sorted h table plan) pos [] (plan_entries h table plan) None (omega arith) refl (nothing-given (plan_entries h table plan));
+  follows = λ h table plan n done left cursor e is. next n (plan_entries h table plan) (plan-sorted h table plan) done left cursor e is;
 }

@@ -1,5 +1,5 @@
 -- Entries given in pieces, each after the place of the last entry before.
-use Rattle.std.specs.Prelude.{◌≡◌, ◌<◌, ℕ, Bool, true, false, cond, ◌||◌, List, [], ◌∷◌, ◌++◌, take, filter, Option, Some, None}
+use Rattle.std.specs.Prelude.{◌≡◌, ◌<◌, ℕ, Bool, true, false, cond, ◌||◌, List, [], ◌∷◌, ◌++◌, take, drop, filter, Option, Some, None}
 use Rattle.std.specs.Ordering.{is_lt}
 use Rattle.mvcc_keys.specs.Times.{Time, time_le, time_lt}
 use Rattle.mvcc_keys.specs.Codes.{mvcc_cmp}
@@ -50,10 +50,12 @@ abbrev pub joined : List (List Entry) → List Entry
 joined [] = []
 joined (piece ∷ pieces) = piece ++ joined pieces
 
--- the pieces of a plan, one after the other, are its entries, and there are such pieces
+-- The pieces of a plan, one after the other, are its entries, and there are such pieces. Where its entries are some that are done and
+-- those after a cursor, the cursor after the next piece leaves those that the piece leaves.
 pub record PiecesAreWhole : Type 0 where
   pub whole : (h : Tables) (table : ℕ) (plan : Plan) (n : ℕ) (pieces : List (List Entry)) → ArePieces n (plan_entries h table plan) None pieces → joined pieces ≡ plan_entries h table plan
   pub given : (h : Tables) (table : ℕ) (plan : Plan) (n : ℕ) → 0 < n → (pieces : List (List Entry)) × ArePieces n (plan_entries h table plan) None pieces
+  pub follows : (h : Tables) (table : ℕ) (plan : Plan) (n : ℕ) (done left : List Entry) (cursor : Option Place) → plan_entries h table plan ≡ done ++ left → after_place cursor (plan_entries h table plan) ≡ left → after_place (cursor_after cursor (take n left)) (plan_entries h table plan) ≡ drop n left
 
 -- a fact of a date may show in a plan's entries
 abbrev pub is_seen : Plan → Time → Bool

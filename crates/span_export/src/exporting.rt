@@ -1,5 +1,5 @@
 //! A plan's entries in pieces.
-ghost use Rattle.std.specs.Prelude.{◌≡◌, true, take, IfOk};
+ghost use Rattle.std.specs.Prelude.{◌≡◌, ◌≤◌, true, length, take, IfOk};
 ghost use Rattle.mvcc_keys.specs.Times.{time_le};
 ghost use Rattle.version_store.specs.Tables.{Tables, entries_of};
 ghost use Rattle.span_export.specs.Plans.{plan_entries, start_of};
@@ -43,6 +43,7 @@ pub fn export<V: Versions>(
     n: usize,
 ) -> Result<(Vec<Entry>, Cursor), Memory>
     ensures piece { IfOk result (λ r. (h : Tables) → V.stands store.now h → time_le (h.threshold table) (start_of plan.now) ≡ true → r.0.items ≡ take n (after_place cursor.now (plan_entries h table plan.now))) }
+    ensures few { IfOk result (λ r. length r.0.items ≤ n) }
     ensures place { IfOk result (λ r. r.1 ≡ cursor_after cursor.now r.0.items) }
 {
     let mut entries = entries_of(alloc, store, table, plan)?;

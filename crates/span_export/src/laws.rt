@@ -2,7 +2,8 @@
 ghost use Rattle.span_export.specs.Pieces.{OthersAreUnseen, PiecesAreWhole};
 
 /// A law: whatever the size of the pieces, a plan's pieces put together are its entries, each
-/// once and in order, and with pieces of one entry or more there is an end to them.
+/// once and in order, and with pieces of one entry or more there is an end to them. What follows
+/// a piece is what the piece leaves.
 pub fn pieces_are_whole()
     ensures { PiecesAreWhole }
 {}

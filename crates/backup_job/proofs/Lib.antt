@@ -1,0 +1,10 @@
+pub mod Cutting
+pub mod Remaining
+pub mod Parts
+pub mod Stepping
+pub mod Disks
+pub mod Starts
+pub mod Bare
+pub mod Ordered
+pub mod Keys
+pub mod Whole

@@ -1,0 +1,178 @@
+//! The manifest of a layer before its chunks are known.
+ghost use Rattle.std.specs.Prelude.{◌≡◌, ◌++◌, ◌∷◌, [], map, filter, option_to_list, IfOk, OnOk};
+ghost use Rattle.range_tombstones.specs.declared.upto.Upto.TheVariants.{At};
+ghost use Rattle.range_tombstones.specs.Intervals.{is_between};
+ghost use Rattle.history_model.specs.Histories.{in_force};
+ghost use Rattle.schema_catalog.specs.Catalogs.{history_of};
+ghost use Rattle.backup_job.specs.Contents.{bare_manifest, layer_descriptors, part_of};
+
+use introduced_spans::{LayerPlan, TablePlan};
+use layer_manifest::{Manifest, TablePart};
+use layer_model::LayerName;
+use mvcc_keys::{Hlc, Items, Memory};
+use row_codec::RowFault;
+use schema_catalog::Catalog;
+use std::alloc::Global;
+use table_descriptors::{
+    Descriptor, Scope, descriptors_are_exact, read_descriptor, write_descriptor,
+};
+
+/// A descriptor is written and read again, since its fields are its own crate's.
+fn copy_descriptor(alloc: Global, d: &Descriptor) -> Result<Descriptor, Memory>
+    ensures { IfOk result (λ e. e ≡ d.now) }
+{
+    d.proper();
+    descriptors_are_exact();
+    let mut bytes = Vec::new(alloc);
+    write_descriptor(d, &mut bytes)?;
+    match read_descriptor(alloc, bytes.as_slice()) {
+        Ok(copy) => Ok(copy),
+        Err(RowFault::Memory) => Err(Memory),
+        Err(RowFault::At { .. }) => unreachable!(),
+    }
+}
+
+fn push_copy(alloc: Global, d: &Descriptor, copies: &mut Vec<Descriptor>) -> Result<(), Memory>
+    ensures { OnOk result (copies.new.items ≡ copies.old.items ++ d.now ∷ []) }
+{
+    let copy = copy_descriptor(alloc, d)?;
+    copies.push(copy).map_err(|_| Memory)
+}
+
+/// Copies the descriptor of a table that is in force at a time, if there is one.
+fn push_at(
+    alloc: Global,
+    catalog: &Catalog,
+    id: u32,
+    t: Hlc,
+    copies: &mut Vec<Descriptor>,
+) -> Result<(), Memory>
+    ensures { OnOk result (copies.new.items ≡ copies.old.items ++ option_to_list (in_force (history_of catalog.now id) t)) }
+{
+    match catalog.at(id, t) {
+        Some(d) => push_copy(alloc, d, copies),
+        None => Ok(()),
+    }
+}
+
+fn is_between(d: &Descriptor, from: Hlc, end: Hlc) -> bool
+    ensures { result ≡ is_between from (At end) d.now.modified }
+{
+    from < d.modified() && d.modified() <= end
+}
+
+fn push_if_between(
+    alloc: Global,
+    d: &Descriptor,
+    from: Hlc,
+    end: Hlc,
+    copies: &mut Vec<Descriptor>,
+) -> Result<(), Memory>
+    ensures { OnOk result (copies.new.items ≡ copies.old.items ++ filter (λ e. is_between from (At end) e.modified) (d.now ∷ [])) }
+{
+    if is_between(d, from, end) {
+        push_copy(alloc, d, copies)
+    } else {
+        Ok(())
+    }
+}
+
+/// Copies those that are dated in an interval.
+fn push_between(
+    alloc: Global,
+    descriptors: &[Descriptor],
+    from: Hlc,
+    end: Hlc,
+    copies: &mut Vec<Descriptor>,
+) -> Result<(), Memory>
+    ensures { OnOk result (copies.new.items ≡ copies.old.items ++ filter (λ d. is_between from (At end) d.modified) descriptors.now) }
+{
+    for d in descriptors {
+        push_if_between(alloc, d, from, end, copies)?;
+    }
+    Ok(())
+}
+
+fn layer_descriptors(
+    alloc: Global,
+    catalog: &Catalog,
+    history: bool,
+    floor: Hlc,
+    end: Hlc,
+    id: u32,
+) -> Result<Vec<Descriptor>, Memory>
+    ensures { IfOk result (λ v. v.items ≡ layer_descriptors history floor end (history_of catalog.now id)) }
+{
+    let mut copies = Vec::new(alloc);
+    if !history {
+        push_at(alloc, catalog, id, end, &mut copies)?;
+        return Ok(copies);
+    }
+    push_at(alloc, catalog, id, floor, &mut copies)?;
+    push_between(alloc, catalog.history(id), floor, end, &mut copies)?;
+    Ok(copies)
+}
+
+fn part_of(
+    alloc: Global,
+    catalog: &Catalog,
+    history: bool,
+    floor: Hlc,
+    end: Hlc,
+    plan: &TablePlan,
+) -> Result<TablePart, Memory>
+    ensures { IfOk result (λ part. part ≡ part_of catalog.now history floor end plan.now) }
+{
+    let descriptors = layer_descriptors(alloc, catalog, history, floor, end, plan.id)?;
+    Ok(TablePart {
+        id: plan.id,
+        introduced: plan.introduced,
+        descriptors: Items::from_vec(descriptors),
+        chunks: Items::from_vec(Vec::new(alloc)),
+    })
+}
+
+fn parts_of(
+    alloc: Global,
+    catalog: &Catalog,
+    history: bool,
+    floor: Hlc,
+    end: Hlc,
+    plans: &[TablePlan],
+) -> Result<Vec<TablePart>, Memory>
+    ensures { IfOk result (λ parts. parts.items ≡ map (part_of catalog.now history floor end) plans.now) }
+{
+    let mut parts = Vec::new(alloc);
+    for plan in plans {
+        parts.push(part_of(alloc, catalog, history, floor, end, plan)?)?;
+    }
+    Ok(parts)
+}
+
+/// The manifest of a layer by its name and its plan, in version 2, without chunks.
+pub fn bare_manifest(
+    alloc: Global,
+    name: &LayerName,
+    history: bool,
+    scope: Scope,
+    plan: &LayerPlan,
+    catalog: &Catalog,
+) -> Result<Manifest, Memory>
+    ensures { IfOk result (λ m. m ≡ bare_manifest name.now history scope plan.now catalog.now) }
+{
+    let cluster = name.cluster.copy(alloc)?;
+    let plans = plan.tables.as_slice();
+    let parts = parts_of(alloc, catalog, history, plan.floor, name.end, plans)?;
+    Ok(Manifest {
+        cluster,
+        job: name.job,
+        full: name.full,
+        start: name.start,
+        end: name.end,
+        floor: plan.floor,
+        history,
+        scope,
+        tables: Items::from_vec(parts),
+        version: 2,
+    })
+}
