@@ -25,7 +25,7 @@ pub reached_none : (h : Tables) (place : ℕ) (plans : List TablePlan) → IsRea
 reached_none h place plans plan at = ([], sym (nothing-given (entries_in h plan)))
 
 -- all of some tables is left where the place is the first of them
-all_left : (h : Tables) (plans : List TablePlan) → map (pieces_of h) plans ≡ remaining_from h zero None plans
+pub all_left : (h : Tables) (plans : List TablePlan) → map (pieces_of h) plans ≡ remaining_from h zero None plans
 all_left h [] = refl
 all_left h (plan ∷ plans) = ap (λ (es : List Entry). cut chunk_size es ∷ map (pieces_of h) plans) (sym (nothing-given (entries_in h plan)))
 

@@ -12,7 +12,7 @@ use Rattle.backup_job.specs.Jobs.{StartedJobsRun, left, started}
 use Rattle.backup_job.proofs.Remaining.{reached_none}
 
 -- tables without chunks have none
-bare_count : (catalog : Schemas) (history : Bool) (floor end : Time) (plans : List TablePlan) → chunk_count (map (part_of catalog history floor end) plans) ≡ 0
+pub bare_count : (catalog : Schemas) (history : Bool) (floor end : Time) (plans : List TablePlan) → chunk_count (map (part_of catalog history floor end) plans) ≡ 0
 bare_count catalog history floor end [] = refl
 bare_count catalog history floor end (p ∷ plans) =
     let a = sum_by-cons (λ (x : TablePart). length x.chunks) (part_of catalog history floor end p) (map (part_of catalog history floor end) plans) in

@@ -4,10 +4,10 @@ use Rattle.std.specs.Prelude.{MatchResult, Option, Result}
 use Rattle.std.proofs.lemmas.Bool.{cases_Bool}
 use Rattle.std.proofs.lemmas.Bool.Decides.{nat_tests}
 use Rattle.outside_world.specs.Disk.{View, IsImage}
-use Rattle.outside_world.specs.Moments.{ChangesOnly, LeavesOnly}
+use Rattle.outside_world.specs.Moments.{ChangesOnly, LeavesOnly, NoName}
 use Rattle.outside_world.specs.Objects.{Objects, at}
 use Rattle.outside_world.proofs.Names.{name_cases}
-use Rattle.outside_world.proofs.Runs.{as_read, only_then, still_known, then_call}
+use Rattle.outside_world.proofs.Runs.{as_read, only_less, only_none, only_then, still_known, then_call}
 use Rattle.version_store.specs.Tables.{Tables}
 use Rattle.chunk_file.specs.Chunks.{chunk_bytes}
 use Rattle.layer_manifest.specs.declared.manifest.Manifest.{Manifest}
@@ -33,15 +33,10 @@ use Rattle.backup_job.specs.declared.job.Progress.{Progress}
 use Rattle.backup_job.specs.declared.job.Progress.TheVariants.{Running, Done}
 use Rattle.backup_job.specs.Jobs.{Job, IsAbout, completed, left, written}
 use Rattle.backup_job.specs.Units.{AtLayer, Finishes, Steps, UnitWrites, WritesChunk}
+use Rattle.backup_job.proofs.Stepping.{next_within}
 use Rattle.backup_job.specs.Whole.{IsAmong, IsUnderWay, IsWriting, IsWritten, RunWrites}
 
 -- ---- numbers
-
-some-left : {X : Type 0} (n : ℕ) (xs : List X) (y : X) (ys : List X) → drop n xs ≡ y ∷ ys → n < length xs
-some-left zero [] y ys e = absurd cc
-some-left zero (x ∷ xs) y ys e = omega arith
-some-left (suc n) [] y ys e = absurd cc
-some-left (suc n) (x ∷ xs) y ys e = let less = some-left n xs y ys e in omega (arith, less)
 
 none-left : {X : Type 0} (n : ℕ) (xs : List X) → drop n xs ≡ [] → length xs ≤ n
 none-left n [] e = omega arith
@@ -84,7 +79,7 @@ module _ (older : Layer → List ℕ) (s : Setting) (w : Layer) (among : IsAmong
           (writes.layer (older w) begin (writing.ahead (written job) (omega arith) lt))
 
       some : (piece : List Entry) (more : List (List Entry)) → left h job ≡ piece ∷ more → written job < length w.chunks
-      some piece more is = some-left (written job) w.chunks _ _ (writing.about.chunks ∙ ap (map chunk_bytes) is)
+      some = next_within writing.about
 
       job-next : (next : Job) (x : Progress) → Steps h w job next Running → WritesChunk w (written job) (Ok x) now new → ((image : Objects) → IsImage new image → new.left_since now.moment image) → IsWriting older s w h next new
       job-next next x takes writes counts =
@@ -154,6 +149,10 @@ module _ (older : Layer → List ℕ) (s : Setting) (w : Layer) (among : IsAmong
       moments r [] is unit = finish-moments r unit is
       moments r (piece ∷ more) is unit = chunk-moments r unit (some piece more is)
 
+      unit-changes : (r : Result Progress DirFault) (pieces : List (List Entry)) → left h job ≡ pieces → UnitWrites h job pieces w r now new → ChangesOnly (IsPartName w) NoName now new
+      unit-changes r [] is unit = only_less at-finish (λ n no. no) unit.changes
+      unit-changes r (piece ∷ more) is unit = only_less (at-chunk (written job) (some piece more is)) (λ n no. no) unit.changes
+
       -- an open layer has its manifest, in either version
       has-manifest : older w ≡ manifest_code (first_version (completed h job)) → IsOpen w now.objects → IsManifestOf (completed h job) (at now.objects (name_of w part.Manifest))
       has-manifest first is_open = ⊎_elim (λ whole. inl (whole part.Manifest tt ∙ ap Some writing.about.manifest)) (λ whole. inr (whole part.Manifest tt ∙ ap Some first))
@@ -192,6 +191,9 @@ module _ (older : Layer → List ℕ) (s : Setting) (w : Layer) (among : IsAmong
       left-now : LeavesOnly now new (StandsInEither older s)
       left-now = moments h job now way.writing new r (left h job) refl writes
 
+      changes-then : ChangesOnly (IsPartName w) NoName first new
+      changes-then = only_then way.changes (unit-changes h job now way.writing new r (left h job) refl writes)
+
       left-then : LeavesOnly first new (StandsInEither older s)
       left-then = then_call way.moments left-now (λ image stands. stands)
 
@@ -200,11 +202,13 @@ module _ (older : Layer → List ℕ) (s : Setting) (w : Layer) (among : IsAmong
         writing = next-by h job now way.writing new next (left h job) refl (took Running is) (wrote (Ok Running) is) (counts left-now.later);
         same = (took Running is).same ∙ way.same;
         moments = left-then;
+        changes = changes-then;
       }
 
       pub ends : r ≡ Ok Done → RunWrites {T = Unit {0}} older s w (completed h began) (Ok (tt {0})) next first new
       ends is = record {
         moments = left-then;
+        changes = changes-then;
         is_written = done-by h job now way.writing new (left h job) refl (took Done is).none (wrote (Ok Done) is);
         manifest = (took Done is).whole ∙ way.same;
         fault = λ e. tt;
@@ -213,6 +217,7 @@ module _ (older : Layer → List ℕ) (s : Setting) (w : Layer) (among : IsAmong
       pub fails : (e : DirFault) → r ≡ Err e → RunWrites {T = Unit {0}} older s w (completed h began) (Err e) next first new
       fails e is = record {
         moments = left-then;
+        changes = changes-then;
         is_written = tt;
         manifest = tt;
         fault = λ first. faults h job now way.writing new (first ∙ ap (λ (m : Manifest). manifest_code (first_version m)) (sym way.same)) (Err e) (left h job) (wrote (Err e) is);
@@ -224,6 +229,7 @@ begins older s w h job now writing only = record {
   writing = writing;
   same = refl;
   moments = record { later = omega arith; each = λ image left. writing.stands image (only image left); before = λ t image le left. inl left };
+  changes = only_none now;
 }
 
 -- ---- a layer that a job is about

@@ -1,12 +1,12 @@
 -- What a layer's objects hold: the entries of each table cut into chunks, and the manifest that tells of them.
-use Rattle.std.specs.Prelude.{ℕ, zero, suc, Bool, true, false, List, [], ◌∷◌, ◌++◌, length, map, filter, take, drop, fold, Option, Some, None, option_to_list, if◌then◌else◌}
-use Rattle.std.specs.List.{flat_map}
+use Rattle.std.specs.Prelude.{ℕ, zero, suc, Bool, true, false, List, [], ◌∷◌, ◌++◌, length, map, filter, take, drop, fold, sum_by, Option, Some, None, option_to_list, if◌then◌else◌}
+use Rattle.std.specs.List.{AllByRecursion, flat_map}
 use Rattle.std.specs.Ordering.{is_lt}
 use Rattle.sha2.specs.Sha256.{sha256}
 use Rattle.mvcc_keys.specs.Times.{Time}
 use Rattle.mvcc_keys.specs.declared.entries.Entry.{Entry}
 use Rattle.table_descriptors.specs.declared.scopes.Scope.{Scope}
-use Rattle.table_descriptors.specs.Descriptors.{Schema}
+use Rattle.table_descriptors.specs.Descriptors.{IsProperSchema, Schema}
 use Rattle.history_model.specs.Histories.{in_force}
 use Rattle.schema_catalog.specs.Catalogs.{Schemas, history_of}
 use Rattle.range_tombstones.specs.declared.upto.Upto.TheVariants.{At}
@@ -91,6 +91,10 @@ layer_descriptors false floor end ds = option_to_list (in_force ds end)
 abbrev pub part_of : Schemas → Bool → Time → Time → TablePlan → TablePart
 part_of catalog history floor end plan = record { id = plan.id; introduced = plan.introduced; descriptors = layer_descriptors history floor end (history_of catalog plan.id); chunks = [] }
 
+-- the descriptors of all tables are proper ones
+abbrev pub AreProper : List TablePart → Type 0
+AreProper tables = AllByRecursion (λ (t : TablePart). AllByRecursion IsProperSchema t.descriptors) tables
+
 -- a table with more pieces as its chunks
 abbrev pub with_pieces : TablePart → List (List Entry) → TablePart
 with_pieces t pieces = record { id = t.id; introduced = t.introduced; descriptors = t.descriptors; chunks = t.chunks ++ map info_of pieces }
@@ -124,3 +128,10 @@ bare_manifest name history scope plan catalog = record {
 -- a layer of that name with this manifest, and with these pieces as its chunks
 abbrev pub layer_of : LayerName → Manifest → List (List Entry) → Layer
 layer_of name m pieces = record { name = name; manifest = manifest_code m; chunks = map chunk_bytes pieces }
+
+-- how many entries the chunks of tables have
+abbrev pub chunk_entries : ChunkInfo → ℕ
+chunk_entries c = c.entries
+
+abbrev pub entry_count : List TablePart → ℕ
+entry_count tables = sum_by (λ (t : TablePart). sum_by chunk_entries t.chunks) tables

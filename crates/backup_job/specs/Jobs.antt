@@ -83,6 +83,11 @@ pub record MayRun (h : Tables) (job : Job) : Type 0 where
   pub proper : IsProperManifest (completed h job)
   pub version : job.manifest.version ≡ 2
 
+-- the job still makes the same layer
+pub record IsSameJob (h : Tables) (old new : Job) : Type 0 where
+  pub name : new.name ≡ old.name
+  pub manifest : completed h new ≡ completed h old
+
 -- The job writes this layer over these facts: the layer has its name and its manifest once it is complete, and the chunks from the next
 -- number on are those that are left.
 pub record IsAbout (h : Tables) (job : Job) (w : Layer) : Type 0 where

@@ -2,12 +2,12 @@
 use Rattle.std.specs.Prelude.{◌≡◌, ◌≤◌, ◌<◌, ℕ, false, List, length, Result, IfErr, OnOk}
 use Rattle.std.specs.List.{Contains}
 use Rattle.outside_world.specs.Disk.{View, IsKnown}
-use Rattle.outside_world.specs.Moments.{InEachImage, IsSettled, LeavesOnly}
+use Rattle.outside_world.specs.Moments.{ChangesOnly, InEachImage, IsSettled, LeavesOnly, NoName}
 use Rattle.version_store.specs.Tables.{Tables}
 use Rattle.layer_manifest.specs.declared.manifest.Manifest.{Manifest}
 use Rattle.layer_manifest.specs.ManifestFiles.{manifest_code}
 use Rattle.layer_model.specs.declared.names.Part.TheVariants as part
-use Rattle.layer_model.specs.Layers.{Holds, IsMarked, IsOpen, Layer, name_of}
+use Rattle.layer_model.specs.Layers.{Holds, IsMarked, IsOpen, IsPartName, Layer, name_of}
 use Rattle.layer_model.specs.Stands.{IsProper, Setting}
 use Rattle.collection_dir.specs.declared.fault.DirFault.{DirFault}
 use Rattle.collection_dir.specs.Faults.{IsDiskFault}
@@ -42,10 +42,11 @@ pub record IsWritten (older : Layer → List ℕ) (w : Layer) (now : View) : Typ
   pub is_open : IsOpen w now.objects
   pub settled : IsSettled now
 
--- What units leave: whatever they answered, a crash at any moment leaves what stands. Once they are through, the layer is written, and
+-- What units leave: whatever they answered, a crash at any moment leaves what stands, and no other names than the layer's are touched. Once they are through, the layer is written, and
 -- the job has its manifest m. Where an older manifest is the same in version 1, nothing is refused but by a fault of the disk or want of memory.
 pub record RunWrites {T : Type 0} (older : Layer → List ℕ) (s : Setting) (w : Layer) (m : Manifest) (result : Result T DirFault) (job : Job) (first now : View) : Type 0 where
   pub moments : LeavesOnly first now (StandsInEither older s)
+  pub changes : ChangesOnly (IsPartName w) NoName first now
   pub is_written : OnOk result (IsWritten older w now)
   pub manifest : OnOk result (job.manifest ≡ m)
   pub fault : older w ≡ manifest_code (first_version m) → IfErr result IsDiskFault
@@ -55,3 +56,4 @@ pub record IsUnderWay (older : Layer → List ℕ) (s : Setting) (w : Layer) (h 
   pub writing : IsWriting older s w h job now
   pub same : completed h job ≡ completed h began
   pub moments : LeavesOnly first now (StandsInEither older s)
+  pub changes : ChangesOnly (IsPartName w) NoName first now

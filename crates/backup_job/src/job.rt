@@ -1,12 +1,15 @@
 //! The job of a backup.
-ghost use Rattle.std.specs.Prelude.{◌≡◌, ℕ, List, IfOk, IfErr, OnErr};
+ghost use Rattle.std.specs.Prelude.{◌≡◌, ℕ, List, IfOk, IfErr, OnErr, OnOk};
+ghost use Rattle.std.specs.List.{AllByRecursion};
+ghost use Rattle.table_descriptors.specs.Descriptors.{IsProperSchema};
 ghost use Rattle.version_store.specs.Tables.{Tables};
 ghost use Rattle.outside_world.specs.Moments.{ChangesOnly, NoName};
+ghost use Rattle.layer_manifest.specs.declared.manifest.TablePart.{TablePart};
 ghost use Rattle.layer_model.specs.Layers.{Layer};
 ghost use Rattle.layer_model.specs.Stands.{Setting};
 ghost use Rattle.collection_dir.specs.Faults.{DirHasCause};
 ghost use Rattle.collection_dir.specs.Finishing.{IsFinishFault};
-ghost use Rattle.backup_job.specs.Jobs.{IsAbout, MayRun, completed, left, started};
+ghost use Rattle.backup_job.specs.Jobs.{IsAbout, IsSameJob, MayRun, completed, left, started};
 ghost use Rattle.backup_job.specs.Units.{AtLayer, Steps, UnitWrites};
 ghost use Rattle.backup_job.specs.Whole.{IsAmong, IsWriting, RunWrites};
 
@@ -65,7 +68,8 @@ impl BackupJob {
         plan: LayerPlan,
         catalog: &Catalog,
     ) -> Result<BackupJob, Memory>
-        ensures { IfOk result (λ job. job ≡ started layer history scope plan catalog.now) }
+        ensures job { IfOk result (λ job. job ≡ started layer history scope plan catalog.now) }
+        ensures proper { IfOk result (λ job. AllByRecursion (λ (t : TablePart). AllByRecursion IsProperSchema t.descriptors) job.manifest.tables) }
     {
         let manifest = bare_manifest(alloc, &layer, history, scope, &plan, catalog)?;
         let LayerPlan { tables, .. } = plan;
@@ -77,6 +81,13 @@ impl BackupJob {
             cursor: Cursor::start(),
             manifest,
         })
+    }
+
+    /// The name of the layer.
+    pub fn layer(&self) -> &LayerName
+        ensures { result.now ≡ self.now.name }
+    {
+        &self.name
     }
 
     /// The manifest with the chunks that were written so far, which is whole at Done.
@@ -122,6 +133,8 @@ impl BackupJob {
         disk: &mut D,
     ) -> Result<(), DirFault>
         requires { (h : Tables) × V.stands store.now h × MayRun h self.old }
+        ensures kept { (h : Tables) → V.stands store.now h → MayRun h self.old → IsSameJob h self.old self.new }
+        ensures whole { (h : Tables) → V.stands store.now h → MayRun h self.old → OnOk result (self.new.manifest ≡ completed h self.old) }
         ensures disk { (h : Tables) → V.stands store.now h → (older : Layer → List ℕ) (s : Setting) (w : Layer) → IsAmong s w → IsWriting older s w h self.old (D.view disk.old)
             → RunWrites older s w (completed h self.old) result self.new (D.view disk.old) (D.view disk.new) }
         ensures changes { ChangesOnly (AtLayer self.old.name) NoName (D.view disk.old) (D.view disk.new) }

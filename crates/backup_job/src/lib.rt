@@ -2,12 +2,14 @@
 #![tactic(auto)]
 
 mod chunks;
+mod counts;
 mod job;
 mod laws;
 mod pieces;
 mod starting;
 mod writing;
 
+pub use counts::{chunk_count, entry_count};
 pub use job::{BackupJob, Progress};
 pub use laws::{infos_are_proper, pieces_are_chunks, started_jobs_run};
 

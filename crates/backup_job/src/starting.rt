@@ -1,10 +1,12 @@
 //! The manifest of a layer before its chunks are known.
 ghost use Rattle.std.specs.Prelude.{◌≡◌, ◌++◌, ◌∷◌, [], map, filter, option_to_list, IfOk, OnOk};
+ghost use Rattle.std.specs.List.{AllByRecursion};
+ghost use Rattle.table_descriptors.specs.Descriptors.{IsProperSchema};
 ghost use Rattle.range_tombstones.specs.declared.upto.Upto.TheVariants.{At};
 ghost use Rattle.range_tombstones.specs.Intervals.{is_between};
 ghost use Rattle.history_model.specs.Histories.{in_force};
 ghost use Rattle.schema_catalog.specs.Catalogs.{history_of};
-ghost use Rattle.backup_job.specs.Contents.{bare_manifest, layer_descriptors, part_of};
+ghost use Rattle.backup_job.specs.Contents.{AreProper, bare_manifest, layer_descriptors, part_of};
 
 use introduced_spans::{LayerPlan, TablePlan};
 use layer_manifest::{Manifest, TablePart};
@@ -19,7 +21,8 @@ use table_descriptors::{
 
 /// A descriptor is written and read again, since its fields are its own crate's.
 fn copy_descriptor(alloc: Global, d: &Descriptor) -> Result<Descriptor, Memory>
-    ensures { IfOk result (λ e. e ≡ d.now) }
+    ensures same { IfOk result (λ e. e ≡ d.now) }
+    ensures proper { IfOk result (λ e. IsProperSchema e) }
 {
     d.proper();
     descriptors_are_exact();
@@ -33,7 +36,8 @@ fn copy_descriptor(alloc: Global, d: &Descriptor) -> Result<Descriptor, Memory>
 }
 
 fn push_copy(alloc: Global, d: &Descriptor, copies: &mut Vec<Descriptor>) -> Result<(), Memory>
-    ensures { OnOk result (copies.new.items ≡ copies.old.items ++ d.now ∷ []) }
+    ensures more { OnOk result (copies.new.items ≡ copies.old.items ++ d.now ∷ []) }
+    ensures proper { OnOk result (AllByRecursion IsProperSchema copies.old.items → AllByRecursion IsProperSchema copies.new.items) }
 {
     let copy = copy_descriptor(alloc, d)?;
     copies.push(copy).map_err(|_| Memory)
@@ -47,7 +51,8 @@ fn push_at(
     t: Hlc,
     copies: &mut Vec<Descriptor>,
 ) -> Result<(), Memory>
-    ensures { OnOk result (copies.new.items ≡ copies.old.items ++ option_to_list (in_force (history_of catalog.now id) t)) }
+    ensures more { OnOk result (copies.new.items ≡ copies.old.items ++ option_to_list (in_force (history_of catalog.now id) t)) }
+    ensures proper { OnOk result (AllByRecursion IsProperSchema copies.old.items → AllByRecursion IsProperSchema copies.new.items) }
 {
     match catalog.at(id, t) {
         Some(d) => push_copy(alloc, d, copies),
@@ -68,7 +73,8 @@ fn push_if_between(
     end: Hlc,
     copies: &mut Vec<Descriptor>,
 ) -> Result<(), Memory>
-    ensures { OnOk result (copies.new.items ≡ copies.old.items ++ filter (λ e. is_between from (At end) e.modified) (d.now ∷ [])) }
+    ensures more { OnOk result (copies.new.items ≡ copies.old.items ++ filter (λ e. is_between from (At end) e.modified) (d.now ∷ [])) }
+    ensures proper { OnOk result (AllByRecursion IsProperSchema copies.old.items → AllByRecursion IsProperSchema copies.new.items) }
 {
     if is_between(d, from, end) {
         push_copy(alloc, d, copies)
@@ -85,7 +91,8 @@ fn push_between(
     end: Hlc,
     copies: &mut Vec<Descriptor>,
 ) -> Result<(), Memory>
-    ensures { OnOk result (copies.new.items ≡ copies.old.items ++ filter (λ d. is_between from (At end) d.modified) descriptors.now) }
+    ensures more { OnOk result (copies.new.items ≡ copies.old.items ++ filter (λ d. is_between from (At end) d.modified) descriptors.now) }
+    ensures proper { OnOk result (AllByRecursion IsProperSchema copies.old.items → AllByRecursion IsProperSchema copies.new.items) }
 {
     for d in descriptors {
         push_if_between(alloc, d, from, end, copies)?;
@@ -101,7 +108,8 @@ fn layer_descriptors(
     end: Hlc,
     id: u32,
 ) -> Result<Vec<Descriptor>, Memory>
-    ensures { IfOk result (λ v. v.items ≡ layer_descriptors history floor end (history_of catalog.now id)) }
+    ensures copies { IfOk result (λ v. v.items ≡ layer_descriptors history floor end (history_of catalog.now id)) }
+    ensures proper { IfOk result (λ v. AllByRecursion IsProperSchema v.items) }
 {
     let mut copies = Vec::new(alloc);
     if !history {
@@ -121,7 +129,8 @@ fn part_of(
     end: Hlc,
     plan: &TablePlan,
 ) -> Result<TablePart, Memory>
-    ensures { IfOk result (λ part. part ≡ part_of catalog.now history floor end plan.now) }
+    ensures part { IfOk result (λ part. part ≡ part_of catalog.now history floor end plan.now) }
+    ensures proper { IfOk result (λ part. AllByRecursion IsProperSchema part.descriptors) }
 {
     let descriptors = layer_descriptors(alloc, catalog, history, floor, end, plan.id)?;
     Ok(TablePart {
@@ -140,7 +149,8 @@ fn parts_of(
     end: Hlc,
     plans: &[TablePlan],
 ) -> Result<Vec<TablePart>, Memory>
-    ensures { IfOk result (λ parts. parts.items ≡ map (part_of catalog.now history floor end) plans.now) }
+    ensures parts { IfOk result (λ parts. parts.items ≡ map (part_of catalog.now history floor end) plans.now) }
+    ensures proper { IfOk result (λ parts. AreProper parts.items) }
 {
     let mut parts = Vec::new(alloc);
     for plan in plans {
@@ -158,7 +168,8 @@ pub fn bare_manifest(
     plan: &LayerPlan,
     catalog: &Catalog,
 ) -> Result<Manifest, Memory>
-    ensures { IfOk result (λ m. m ≡ bare_manifest name.now history scope plan.now catalog.now) }
+    ensures manifest { IfOk result (λ m. m ≡ bare_manifest name.now history scope plan.now catalog.now) }
+    ensures proper { IfOk result (λ m. AreProper m.tables) }
 {
     let cluster = name.cluster.copy(alloc)?;
     let plans = plan.tables.as_slice();

@@ -3,7 +3,7 @@ ghost use Rattle.std.specs.Prelude.{◌≡◌, ◌≤◌, ◌<◌, ◌++◌, ◌
 ghost use Rattle.outside_world.specs.Moments.{ChangesOnly, NoName};
 ghost use Rattle.chunk_file.specs.Chunks.{chunk_bytes};
 ghost use Rattle.layer_manifest.specs.ManifestFiles.{manifest_code};
-ghost use Rattle.layer_manifest.specs.Manifests.{IsProperManifest, chunk_count};
+ghost use Rattle.layer_manifest.specs.Manifests.{IsProperManifest};
 ghost use Rattle.layer_model.specs.Layers.{Layer};
 ghost use Rattle.collection_dir.specs.Faults.{DirHasCause, IsDiskFault};
 ghost use Rattle.collection_dir.specs.Finishing.{IsFinishFault};
@@ -13,6 +13,7 @@ ghost use Rattle.backup_job.specs.Jobs.{written};
 ghost use Rattle.backup_job.specs.Units.{AtLayer, Finishes, WritesChunk, with_chunk, with_info};
 
 use crate::chunks::chunk_of;
+use crate::counts::chunk_count;
 use crate::pieces::Piece;
 use crate::{BackupJob, Progress};
 use collection_dir::{DirFault, finish_layer, write_chunk};
@@ -21,18 +22,6 @@ use mvcc_keys::{Items, Memory};
 use outside_world::Disk;
 use std::alloc::Global;
 use std::mem;
-
-/// How many chunks tables have.
-fn chunk_count(tables: &[TablePart]) -> u32
-    requires { chunk_count tables.now ≤ 1000000 }
-    ensures { result ≡ chunk_count tables.now }
-{
-    let mut count = 0u32;
-    for table in tables {
-        count += table.chunks.as_slice().len() as u32;
-    }
-    count
-}
 
 fn push_info(alloc: Global, chunks: &mut Items<ChunkInfo>, info: ChunkInfo) -> Result<(), Memory>
     ensures ok { OnOk result (chunks.new ≡ chunks.old ++ info ∷ []) }

@@ -5,20 +5,19 @@ use Rattle.std.proofs.lemmas.List.{append-nil}
 use Rattle.outside_world.specs.Told.{told_before, before_told, AtEnd}
 use Rattle.outside_world.specs.Causes.{Rose}
 use Rattle.outside_world.specs.Disk.{View, IsImage, IsKnown}
-use Rattle.outside_world.specs.Moments.{LeavesOnly}
 use Rattle.outside_world.specs.Objects.{Objects}
-use Rattle.outside_world.proofs.Runs.{only_none, only_then, then_call}
+use Rattle.outside_world.proofs.Runs.{only_none, only_then}
 use Rattle.machine_model.specs.Machine.{World}
-use Rattle.machine_model.specs.Disks.{IsReady, StandsUntil}
-use Rattle.machine_model.proofs.DiskLaws.{ready_leaves}
+use Rattle.machine_model.specs.Disks.{IsReady}
 use Rattle.machine_model.specs.Script.{Outcome, outcome, lines, script_outcome, whole_lines}
 use Rattle.backup_run.specs.declared.stops.Stop.{Stop}
 use Rattle.backup_run.specs.declared.stops.Stop.TheVariants.{Malformed, WriteFault, DiskFault, Memory}
 use Rattle.backup_run.specs.declared.stops.Ending.{Ending}
 use Rattle.backup_run.specs.declared.stops.Ending.TheVariants.{AllDone, SomeRefused, IllFormed, ReadFault, Unwritten, DiskFailed, NoMemory}
-use Rattle.backup_run.specs.Endings.{AnswersFront, Begins, EndsBy, Answers, AnswersAtEnd, IsLast, IsWhole, IsComplete, RunsScript, ending_of, code_of, CodeCause, ReadCause, WriteCause, StoreCause, StaysLow, Completes}
+use Rattle.backup_run.specs.Endings.{AnswersFront, Begins, EndsBy, Answers, AnswersAtEnd, IsLast, IsWhole, IsComplete, Leads, RunsScript, ending_of, code_of, CodeCause, ReadCause, WriteCause, StoreCause, StaysLow, Completes}
 use Rattle.backup_run.specs.Run.{Here, at_of, at_first, SessionAt, StandsAt, IsHere, Fed, EndedIn, Running, AtInputEnd, Ran, written_before, outcome_of_rest, outcome_of_lines}
 use Rattle.backup_run.proofs.Steps.{begins_written, begins_more, lines_begin, here, fed_nothing, fed_fed, fed_ended}
+use Rattle.backup_run.proofs.Stepping.{leads_then, still}
 use Rattle.backup_run.proofs.Telling.{told_twice, told_nothing}
 
 -- ---- what a source tells
@@ -63,7 +62,7 @@ ran_nothing left held v at only = record {
   source = told_no left;
   sink = sym (told_nothing held);
   answers = λ worlds whole more tells s. ((whole more).text, refl);
-  leaves = λ worlds whole more tells s. ready_leaves _ v only s.ready;
+  leads = λ worlds whole more tells s. still s.machine (whole more).machine v only s.ready;
   ready = λ no. absurd no;
   changes = only_none v;
 }
@@ -78,7 +77,7 @@ ran_unread l0 l1 l2 h0 h1 v0 v1 a b r is = record {
   answers = λ worlds whole more left s.
       let now = now_at l0 l1 h0 h1 v0 v1 a b worlds whole more r s in
       (now.at.answers, begins_written r.fed.text (whole (r.read ++ more)) (outcome_of_rest worlds (at_of b now.machine) more) (now.at.goes_on more));
-  leaves = λ worlds whole more left s. r.fed.leaves worlds whole [] [] more s;
+  leads = λ worlds whole more left s. r.fed.leads worlds whole [] [] more s;
   ready = λ no. absurd no;
   changes = r.fed.changes;
 }
@@ -100,7 +99,7 @@ ran_stopped l0 l1 l2 h0 h1 h2 v0 v1 v2 a b piece stop r is t =
       source = r.source ∙ ap (λ o. before_told r.read o) is ∙ told_read l2 r.read piece;
       sink = w.wrote;
       answers = λ worlds whole more left s. answers_stopped stop whole (r.read ++ piece) w.text more (w.ends worlds whole [] [] more s);
-      leaves = λ worlds whole more left s. w.leaves worlds whole [] [] more s;
+      leads = λ worlds whole more left s. w.leads worlds whole [] [] more s;
       ready = λ complete worlds whole more left s. w.ready complete worlds whole [] [] more s;
       changes = w.changes;
     }
@@ -137,14 +136,14 @@ ran_ended l0 l1 l2 h0 h1 h2 v0 v1 v2 a b nothing ending r is none end e = record
       let now = last worlds whole more left s in
       subst (λ (x : List ℕ). Answers ending whole r.read x (r.fed.text ++ e.text)) (sym (only_end l2 more end left))
       (answers_end ending whole r.read r.fed.text e.text (outcome_of_rest worlds (at_of b now.machine) []) now.at.answers (now.at.goes_on []) (e.answers worlds now.machine (here worlds b v1 whole r.read r.fed.text [] now)));
-  leaves = λ worlds whole more left s.
+  leads = λ worlds whole more left s.
       let now = last worlds whole more left s in
-      then_call (r.fed.leaves worlds whole [] [] more s)
-      (subst (λ (m : Outcome). LeavesOnly v1 v2 (StandsUntil m.machine)) (sym (now.at.goes_on []) ∙ ap (λ (x : List ℕ). whole (r.read ++ x)) (sym (only_end l2 more end left)))
-      (e.leaves worlds now.machine (here worlds b v1 whole r.read r.fed.text [] now))) (λ image stands. stands);
+      leads_then (whole (r.read ++ more)).machine v0 v1 v2 (r.fed.leads worlds whole [] [] more s)
+      (subst (λ (m : Outcome). Leads m.machine v1 v2) (sym (now.at.goes_on []) ∙ ap (λ (x : List ℕ). whole (r.read ++ x)) (sym (only_end l2 more end left)))
+      (e.leads worlds now.machine (here worlds b v1 whole r.read r.fed.text [] now)));
   ready = λ complete worlds whole more left s.
       let now = last worlds whole more left s in
-      subst (λ (m : Outcome). IsReady m.machine v2) (sym (now.at.goes_on []) ∙ ap (λ (x : List ℕ). whole (r.read ++ x)) (sym (only_end l2 more end left)))
+      subst (λ (m : Outcome). IsReady m.machine m.machine v2) (sym (now.at.goes_on []) ∙ ap (λ (x : List ℕ). whole (r.read ++ x)) (sym (only_end l2 more end left)))
       (e.ready complete worlds now.machine (here worlds b v1 whole r.read r.fed.text [] now));
   changes = only_then r.fed.changes e.changes;
 }
@@ -166,7 +165,7 @@ stands_at : (worlds : List World) → StandsAt (script_outcome worlds) (outcome_
 stands_at worlds = record { goes_on = λ more. start_is_script worlds more; answers = nothing_said worlds }
 
 -- a run begins where nothing was read and nothing written
-stands_first : (worlds : List World) (v : View) (script : List ℕ) → IsReady (script_outcome worlds script).machine v → SessionAt worlds at_first v (script_outcome worlds) [] [] script
+stands_first : (worlds : List World) (v : View) (script : List ℕ) → IsReady None (script_outcome worlds script).machine v → SessionAt worlds at_first v (script_outcome worlds) [] [] script
 unfolding at_first
 stands_first worlds v script ready = record { machine = None; stands = tt; at = stands_at worlds; ready = ready }
 
@@ -175,7 +174,7 @@ told_left script read None e = absurd cc
 told_left script read (Some x) e = (x, refl, cc)
 
 pub runs_script : (code : ℕ) (worlds : List World) (script held : List ℕ) (l0 l1 h0 h1 : Option (List ℕ)) (v0 v1 : View) (ending : Ending) → code ≡ code_of ending → l0 ≡ Some script → h0 ≡ Some held
-    → IsReady (script_outcome worlds script).machine v0 → Ran l0 l1 h0 h1 v0 v1 at_first ending → RunsScript worlds l1 h1 v0 v1 script held code
+    → IsReady None (script_outcome worlds script).machine v0 → Ran l0 l1 h0 h1 v0 v1 at_first ending → RunsScript worlds l1 h1 v0 v1 script held code
 runs_script code worlds script held l0 l1 h0 h1 v0 v1 ending status tells holds ready r =
     let t = told_left script r.read l1 (sym tells ∙ r.source) in
     let s = subst (λ (bs : List ℕ). SessionAt worlds at_first v0 (script_outcome worlds) [] [] bs) t.2 (stands_first worlds v0 script ready) in
@@ -189,8 +188,8 @@ runs_script code worlds script held l0 l1 h0 h1 v0 v1 ending status tells holds 
       left = t.1;
       got = r.sink ∙ ap (λ o. told_before o r.written) holds;
       answers = r.answers worlds (script_outcome worlds) t.0 t.1 s;
-      leaves = subst (λ (bs : List ℕ). LeavesOnly v0 v1 (StandsUntil (script_outcome worlds bs).machine)) (sym t.2) (r.leaves worlds (script_outcome worlds) t.0 t.1 s);
-      ready = λ complete. subst (λ (bs : List ℕ). IsReady (script_outcome worlds bs).machine v1) (sym t.2) (r.ready complete worlds (script_outcome worlds) t.0 t.1 s);
+      leads = subst (λ (bs : List ℕ). Leads (script_outcome worlds bs).machine v0 v1) (sym t.2) (r.leads worlds (script_outcome worlds) t.0 t.1 s);
+      ready = λ complete. subst (λ (bs : List ℕ). IsReady (script_outcome worlds bs).machine (script_outcome worlds bs).machine v1) (sym t.2) (r.ready complete worlds (script_outcome worlds) t.0 t.1 s);
     }
 
 -- ---- completeness

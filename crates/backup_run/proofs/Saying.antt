@@ -10,20 +10,25 @@ use Rattle.machine_model.specs.Disks.{IsReady}
 use Rattle.cluster_core.specs.ClusterView.{ClusterState}
 use Rattle.machine_model.specs.Script.{Line, Within, lines, Outcome, outcome, malformed_at, malformed_text, reading_before, machine_after, read_at}
 use Rattle.backup_run.specs.declared.answering.Said.{Said}
-use Rattle.backup_run.specs.Endings.{IsLast, IsWhole}
-use Rattle.backup_run.specs.Run.{At, Here, at_of, StandsAs, IsHere, IsHereAtLines, Goes, SaysLine, written_before, with_refused, outcome_of_lines, outcome_of_rest}
+use Rattle.backup_run.specs.Endings.{IsLastAt, IsWholeAt, Leads}
+use Rattle.backup_run.specs.Run.{At, Here, at_of, StandsAs, IsAt, IsHere, IsHereAtLines, Goes, MayGo, SaysLine, written_before, with_refused, outcome_of_lines, outcome_of_rest}
+use Rattle.backup_run.proofs.Ends.{line-later}
 use Rattle.backup_run.proofs.Bytes.{rest_beyond, rest_newline, rest_other, rest_too_long, rest_ends, rest_nothing}
 
 -- ---- malformed lines
 
-is_last : (n column : ℕ) (m : Option Machine) (refused : Bool) (o : Outcome) → o ≡ with_refused refused (malformed_at n column m) → IsLast (malformed_text n column) o
-is_last n column m refused o e = (ap (λ x. x.text) e, ap (λ x. x.malformed) e)
+-- the disk that is ready for an end at which the machine is, holds just its layers
+at_last : (m : Option Machine) (o : Outcome) (v : View) → o.machine ≡ m → IsReady m o.machine v → IsReady o.machine o.machine v
+at_last m o v is ready = subst (λ (x : Option Machine). IsReady x o.machine v) (sym is) ready
 
-pub last_beyond : (worlds : List World) (a : At) (b : ℕ) (more : List ℕ) → a.room ≡ 0 → length a.pending ≤ 65536 → IsLast (malformed_text a.line (length a.pending + 1)) (outcome_of_rest worlds a (b ∷ more))
-last_beyond worlds a b more is fits = is_last a.line (length a.pending + 1) a.machine a.refused _ (rest_beyond worlds a b more is fits)
+is_last : (n column : ℕ) (m : Option Machine) (refused : Bool) (o : Outcome) (v : View) → o ≡ with_refused refused (malformed_at n column m) → IsReady m o.machine v → IsLastAt (malformed_text n column) o v
+is_last n column m refused o v e ready = ((ap (λ x. x.text) e, ap (λ x. x.malformed) e), at_last m o v (ap (λ (x : Outcome). x.machine) e) ready)
 
-pub last_too_long : (worlds : List World) (a : At) (b : ℕ) (more : List ℕ) → a.room ≢ 0 → b ≢ 10 → length a.pending ≡ 65536 → IsLast (malformed_text a.line 65537) (outcome_of_rest worlds a (b ∷ more))
-last_too_long worlds a b more some other full = is_last a.line 65537 a.machine a.refused _ (rest_too_long worlds a (a.room - 1) b more (omega arith) (grind (arith, nat_tests)) full)
+pub last_beyond : (worlds : List World) (h : Here) (v : View) (m : Option Machine) (b : ℕ) (more : List ℕ) → h.room ≡ 0 → length h.pending ≤ 65536 → IsHere worlds h v m (b ∷ more) → IsLastAt (malformed_text h.line (length h.pending + 1)) (outcome_of_rest worlds (at_of h m) (b ∷ more)) v
+last_beyond worlds h v m b more is fits here = is_last h.line (length h.pending + 1) m h.refused (outcome_of_rest worlds (at_of h m) (b ∷ more)) v (rest_beyond worlds (at_of h m) b more is fits) here.ready
+
+pub last_too_long : (worlds : List World) (h : Here) (v : View) (m : Option Machine) (b : ℕ) (more : List ℕ) → h.room ≢ 0 → b ≢ 10 → length h.pending ≡ 65536 → IsHere worlds h v m (b ∷ more) → IsLastAt (malformed_text h.line 65537) (outcome_of_rest worlds (at_of h m) (b ∷ more)) v
+last_too_long worlds h v m b more some other full here = is_last h.line 65537 m h.refused (outcome_of_rest worlds (at_of h m) (b ∷ more)) v (rest_too_long worlds (at_of h m) (h.room - 1) b more (omega arith) (grind (arith, nat_tests)) full) here.ready
 
 -- ---- newlines
 
@@ -44,13 +49,18 @@ newline_is worlds h m b more some is =
 
 at_lines : (worlds : List World) (h : Here) (v : View) (m : Option Machine) (b : ℕ) (more : List ℕ) → h.room ≢ 0 → b ≡ 10 → IsHere worlds h v m (b ∷ more)
     → IsHereAtLines worlds (after_newline h) v m (Within h.pending ∷ lines (h.room - 1) more)
-at_lines worlds h v m b more some is here = record { stands = here.stands; ready = subst (λ (o : Outcome). IsReady o.machine v) (newline_is worlds h m b more some is) here.ready }
+at_lines worlds h v m b more some is here = record { stands = here.stands; ready = subst (λ (o : Outcome). IsReady m o.machine v) (newline_is worlds h m b more some is) here.ready }
 
-pub newline_last : {E : Type 0} (worlds : List World) (h : Here) (v : View) (m : Option Machine) (b : ℕ) (more : List ℕ) (r : Result Said E) → h.room ≢ 0 → b ≡ 10 → IsHere worlds h v m (b ∷ more)
-    → ((ls : List Line) → IsHereAtLines worlds (after_newline h) v m (Within h.pending ∷ ls) → IfOk r (λ s. s.malformed ≡ true → IsLast s.text.items (outcome_of_lines worlds (at_of (after_newline h) m) (Within h.pending ∷ ls))))
-    → IfOk r (λ s. s.malformed ≡ true → IsLast s.text.items (outcome_of_rest worlds (at_of h m) (b ∷ more)))
-newline_last worlds h v m b more r some is here last =
-    IfOk-weaker r _ _ (λ s f t. subst (λ (o : Outcome). IsLast s.text.items o) (sym (newline_is worlds h m b more some is)) (f t)) (last (lines (h.room - 1) more) (at_lines worlds h v m b more some is here))
+pub newline_last : {E : Type 0} (worlds : List World) (h : Here) (v v1 : View) (m : Option Machine) (b : ℕ) (more : List ℕ) (r : Result Said E) → h.room ≢ 0 → b ≡ 10 → IsHere worlds h v m (b ∷ more)
+    → ((ls : List Line) → IsHereAtLines worlds (after_newline h) v m (Within h.pending ∷ ls) → IfOk r (λ s. s.malformed ≡ true → IsLastAt s.text.items (outcome_of_lines worlds (at_of (after_newline h) m) (Within h.pending ∷ ls)) v1))
+    → IfOk r (λ s. s.malformed ≡ true → IsLastAt s.text.items (outcome_of_rest worlds (at_of h m) (b ∷ more)) v1)
+newline_last worlds h v v1 m b more r some is here last =
+    IfOk-weaker r _ _ (λ s f t. subst (λ (o : Outcome). IsLastAt s.text.items o v1) (sym (newline_is worlds h m b more some is)) (f t)) (last (lines (h.room - 1) more) (at_lines worlds h v m b more some is here))
+
+pub newline_leads : (worlds : List World) (h : Here) (v v1 : View) (m : Option Machine) (b : ℕ) (more : List ℕ) → h.room ≢ 0 → b ≡ 10 → IsHere worlds h v m (b ∷ more)
+    → ((ls : List Line) → IsHereAtLines worlds (after_newline h) v m (Within h.pending ∷ ls) → Leads (outcome_of_lines worlds (at_of (after_newline h) m) (Within h.pending ∷ ls)).machine v v1)
+    → Leads (outcome_of_rest worlds (at_of h m) (b ∷ more)).machine v v1
+newline_leads worlds h v v1 m b more some is here leads = subst (λ (o : Outcome). Leads o.machine v v1) (sym (newline_is worlds h m b more some is)) (leads (lines (h.room - 1) more) (at_lines worlds h v m b more some is here))
 
 -- after a newline the next line begins
 begins : (worlds : List World) (a : At) (more : List ℕ) → a.pending ≡ [] → outcome_of_rest worlds a more ≡ outcome_of_lines worlds a (lines a.room more)
@@ -58,29 +68,30 @@ unfolding outcome_of_rest
 begins worlds a more e = rw e refl
 
 -- a line and what follows go on, and so do a byte and what follows
-abbrev pub LinesGo : List World → Here → Option Machine → Here → List ℕ → Type 0
-LinesGo worlds h m new text = Goes new text (λ ls. outcome_of_lines worlds (at_of h m) (Within h.pending ∷ ls)) (outcome_of_lines worlds)
+abbrev pub LinesGo : List World → Here → Option Machine → Here → View → Option Machine → List ℕ → Type 0
+LinesGo worlds h m new v end text = Goes new v end text (λ ls. outcome_of_lines worlds (at_of h m) (Within h.pending ∷ ls)) (outcome_of_lines worlds)
 
-abbrev pub BytesGo : List World → Here → Option Machine → ℕ → Here → List ℕ → Type 0
-BytesGo worlds h m b new text = Goes new text (λ xs. outcome_of_rest worlds (at_of h m) (b ∷ xs)) (outcome_of_rest worlds)
+abbrev pub BytesGo : List World → Here → Option Machine → ℕ → Here → View → Option Machine → List ℕ → Type 0
+BytesGo worlds h m b new v end text = Goes new v end text (λ xs. outcome_of_rest worlds (at_of h m) (b ∷ xs)) (outcome_of_rest worlds)
 
-bytes_go : (worlds : List World) (h new : Here) (m : Option Machine) (b : ℕ) (text : List ℕ) → h.room ≢ 0 → b ≡ 10 → new.pending ≡ [] → new.room ≡ h.room - 1 → LinesGo worlds (after_newline h) m new text → BytesGo worlds h m b new text
-bytes_go worlds h new m b text some is cleared room g = record {
+bytes_go : (worlds : List World) (h new : Here) (v : View) (end by : Option Machine) (m : Option Machine) (b : ℕ) (text : List ℕ) → end ≡ by → h.room ≢ 0 → b ≡ 10 → new.pending ≡ [] → new.room ≡ h.room - 1 → LinesGo worlds (after_newline h) m new v end text → BytesGo worlds h m b new v by text
+bytes_go worlds h new v end by m b text same some is cleared room g = record {
   machine = g.machine;
   stands = g.stands;
+  ready = subst (λ (x : Option Machine). IsReady g.machine x v) same g.ready;
   goes_on = λ more.
       let after : outcome_of_rest worlds (at_of new g.machine) more ≡ outcome_of_lines worlds (at_of new g.machine) (lines (h.room - 1) more) =
       begins worlds (at_of new g.machine) more cleared ∙ ap (λ (k : ℕ). outcome_of_lines worlds (at_of new g.machine) (lines k more)) room in
       newline_is worlds h m b more some is ∙ g.goes_on (lines (h.room - 1) more) ∙ ap (written_before text) (sym after);
 }
 
-pub newline_goes_on : {E : Type 0} (worlds : List World) (h new : Here) (v : View) (m : Option Machine) (b : ℕ) (more : List ℕ) (r : Result Said E) → h.room ≢ 0 → b ≡ 10 → IsHere worlds h v m (b ∷ more)
-    → ((ls : List Line) → IsHereAtLines worlds (after_newline h) v m (Within h.pending ∷ ls) → IfOk r (λ s. s.malformed ≡ false → LinesGo worlds (after_newline h) m new s.text.items))
+pub newline_goes_on : {E : Type 0} (worlds : List World) (h new : Here) (v v1 : View) (m : Option Machine) (b : ℕ) (more : List ℕ) (r : Result Said E) → h.room ≢ 0 → b ≡ 10 → IsHere worlds h v m (b ∷ more)
+    → ((ls : List Line) → IsHereAtLines worlds (after_newline h) v m (Within h.pending ∷ ls) → IfOk r (λ s. s.malformed ≡ false → LinesGo worlds (after_newline h) m new v1 (outcome_of_lines worlds (at_of (after_newline h) m) (Within h.pending ∷ ls)).machine s.text.items))
     → IfOk r (λ _. new.pending ≡ []) → new.room ≡ h.room - 1
-    → IfOk r (λ s. s.malformed ≡ false → BytesGo worlds h m b new s.text.items)
-newline_goes_on worlds h new v m b more (Ok s) some is here goes cleared room = λ t.
-    bytes_go worlds h new m b s.text.items some is cleared room (goes (lines (h.room - 1) more) (at_lines worlds h v m b more some is here) t)
-newline_goes_on worlds h new v m b more (Err e) some is here goes cleared room = tt
+    → IfOk r (λ s. s.malformed ≡ false → BytesGo worlds h m b new v1 (outcome_of_rest worlds (at_of h m) (b ∷ more)).machine s.text.items)
+newline_goes_on worlds h new v v1 m b more (Ok s) some is here goes cleared room = λ t.
+    bytes_go worlds h new v1 (outcome_of_lines worlds (at_of (after_newline h) m) (Within h.pending ∷ lines (h.room - 1) more)).machine (outcome_of_rest worlds (at_of h m) (b ∷ more)).machine m b s.text.items (ap (λ (o : Outcome). o.machine) (sym (newline_is worlds h m b more some is))) some is cleared room (goes (lines (h.room - 1) more) (at_lines worlds h v m b more some is here) t)
+newline_goes_on worlds h new v v1 m b more (Err e) some is here goes cleared room = tt
 
 -- ---- other bytes
 
@@ -91,10 +102,10 @@ byte_more a b pending some other is worlds more =
     let no : eqb b 10 ≡ false = grind (arith, nat_tests) in
     rest_other worlds a (a.room - 1) b more (omega arith) no ∙ rw is refl
 
-pub byte_goes_on : (worlds : List World) (h : Here) (m : Option Machine) (b : ℕ) (pending text : List ℕ) → text ≡ [] → h.room ≢ 0 → b ≢ 10 → pending ≡ h.pending ++ b ∷ [] → StandsAs h.cluster m
-    → BytesGo worlds h m b (record h { pending = pending; room = h.room - 1 }) text
-byte_goes_on worlds h m b pending text none some other is stands =
-    record { machine = m; stands = stands; goes_on = λ more. rw none (byte_more (at_of h m) b pending some other is worlds more) }
+pub byte_goes_on : (worlds : List World) (h : Here) (v : View) (m : Option Machine) (b : ℕ) (more : List ℕ) (pending text : List ℕ) → text ≡ [] → h.room ≢ 0 → b ≢ 10 → pending ≡ h.pending ++ b ∷ [] → IsHere worlds h v m (b ∷ more)
+    → BytesGo worlds h m b (record h { pending = pending; room = h.room - 1 }) v (outcome_of_rest worlds (at_of h m) (b ∷ more)).machine text
+byte_goes_on worlds h v m b more pending text none some other is here =
+    record { machine = m; stands = here.stands; ready = here.ready; goes_on = λ more. rw none (byte_more (at_of h m) b pending some other is worlds more) }
 
 -- ---- the end of the input
 
@@ -103,35 +114,43 @@ or_false true = refl
 or_false false = refl
 
 at_end : (worlds : List World) (h : Here) (v : View) (m : Option Machine) → 0 < length h.pending → IsHere worlds h v m [] → IsHereAtLines worlds h v m (Within h.pending ∷ [])
-at_end worlds h v m some here = record { stands = here.stands; ready = subst (λ (o : Outcome). IsReady o.machine v) (rest_ends worlds (at_of h m) some) here.ready }
+at_end worlds h v m some here = record { stands = here.stands; ready = subst (λ (o : Outcome). IsReady m o.machine v) (rest_ends worlds (at_of h m) some) here.ready }
 
-pub end_last : {E : Type 0} (worlds : List World) (h : Here) (v : View) (m : Option Machine) (r : Result Said E) → 0 < length h.pending → IsHere worlds h v m []
-    → ((ls : List Line) → IsHereAtLines worlds h v m (Within h.pending ∷ ls) → IfOk r (λ s. s.malformed ≡ true → IsLast s.text.items (outcome_of_lines worlds (at_of h m) (Within h.pending ∷ ls))))
-    → IfOk r (λ s. s.malformed ≡ true → IsLast s.text.items (outcome_of_rest worlds (at_of h m) []))
-end_last worlds h v m r some here last =
-    IfOk-weaker r _ _ (λ s f t. subst (λ (o : Outcome). IsLast s.text.items o) (sym (rest_ends worlds (at_of h m) some)) (f t)) (last [] (at_end worlds h v m some here))
+pub end_last : {E : Type 0} (worlds : List World) (h : Here) (v v1 : View) (m : Option Machine) (r : Result Said E) → 0 < length h.pending → IsHere worlds h v m []
+    → ((ls : List Line) → IsHereAtLines worlds h v m (Within h.pending ∷ ls) → IfOk r (λ s. s.malformed ≡ true → IsLastAt s.text.items (outcome_of_lines worlds (at_of h m) (Within h.pending ∷ ls)) v1))
+    → IfOk r (λ s. s.malformed ≡ true → IsLastAt s.text.items (outcome_of_rest worlds (at_of h m) []) v1)
+end_last worlds h v v1 m r some here last =
+    IfOk-weaker r _ _ (λ s f t. subst (λ (o : Outcome). IsLastAt s.text.items o v1) (sym (rest_ends worlds (at_of h m) some)) (f t)) (last [] (at_end worlds h v m some here))
+
+pub end_leads : (worlds : List World) (h : Here) (v v1 : View) (m : Option Machine) → 0 < length h.pending → IsHere worlds h v m []
+    → ((ls : List Line) → IsHereAtLines worlds h v m (Within h.pending ∷ ls) → Leads (outcome_of_lines worlds (at_of h m) (Within h.pending ∷ ls)).machine v v1) → Leads (outcome_of_rest worlds (at_of h m) []).machine v v1
+end_leads worlds h v v1 m some here leads = subst (λ (o : Outcome). Leads o.machine v v1) (sym (rest_ends worlds (at_of h m) some)) (leads [] (at_end worlds h v m some here))
 
 no_lines : (worlds : List World) (a : At) → outcome_of_lines worlds a [] ≡ record { text = []; refused = a.refused || false; malformed = false; machine = a.machine }
 unfolding outcome_of_lines outcome
 no_lines worlds a = refl
 
-whole_at : (refused : Bool) (text : List ℕ) (m : Option Machine) (o : Outcome) → o ≡ written_before text (record { text = []; refused = refused || false; malformed = false; machine = m }) → IsWhole refused text o
-whole_at refused text m o is = record {
-  text_is = ap (λ (x : Outcome). x.text) is ∙ append-nil text;
-  refused_is = ap (λ (x : Outcome). x.refused) is ∙ or_false refused;
-  well_formed = ap (λ (x : Outcome). x.malformed) is;
-}
+whole_at : (refused : Bool) (text : List ℕ) (m : Option Machine) (o : Outcome) (v : View) → o ≡ written_before text (record { text = []; refused = refused || false; malformed = false; machine = m }) → IsReady m o.machine v → IsWholeAt refused text o v
+whole_at refused text m o v is ready = (
+  record {
+    text_is = ap (λ (x : Outcome). x.text) is ∙ append-nil text;
+    refused_is = ap (λ (x : Outcome). x.refused) is ∙ or_false refused;
+    well_formed = ap (λ (x : Outcome). x.malformed) is;
+  },
+  at_last m o v (ap (λ (x : Outcome). x.machine) is) ready,
+)
 
-pub end_goes_on : {E : Type 0} (worlds : List World) (h new : Here) (v : View) (m : Option Machine) (r : Result Said E) → 0 < length h.pending → IsHere worlds h v m []
-    → ((ls : List Line) → IsHereAtLines worlds h v m (Within h.pending ∷ ls) → IfOk r (λ s. s.malformed ≡ false → LinesGo worlds h m new s.text.items))
-    → IfOk r (λ s. s.malformed ≡ false → IsWhole new.refused s.text.items (outcome_of_rest worlds (at_of h m) []))
-end_goes_on worlds h new v m r some here goes = IfOk-weaker r _ _ (λ s f t.
+pub end_goes_on : {E : Type 0} (worlds : List World) (h new : Here) (v v1 : View) (m : Option Machine) (r : Result Said E) → 0 < length h.pending → IsHere worlds h v m []
+    → ((ls : List Line) → IsHereAtLines worlds h v m (Within h.pending ∷ ls) → IfOk r (λ s. s.malformed ≡ false → LinesGo worlds h m new v1 (outcome_of_lines worlds (at_of h m) (Within h.pending ∷ ls)).machine s.text.items))
+    → IfOk r (λ s. s.malformed ≡ false → IsWholeAt new.refused s.text.items (outcome_of_rest worlds (at_of h m) []) v1)
+end_goes_on worlds h new v v1 m r some here goes = IfOk-weaker r _ _ (λ s f t.
     let g = f t in
-    whole_at new.refused s.text.items g.machine _ (rest_ends worlds (at_of h m) some ∙ g.goes_on [] ∙ ap (written_before s.text.items) (no_lines worlds (at_of new g.machine))))
+    whole_at new.refused s.text.items g.machine (outcome_of_rest worlds (at_of h m) []) v1 (rest_ends worlds (at_of h m) some ∙ g.goes_on [] ∙ ap (written_before s.text.items) (no_lines worlds (at_of new g.machine)))
+    (subst (λ (o : Outcome). IsReady g.machine o.machine v1) (sym (rest_ends worlds (at_of h m) some)) g.ready))
     (goes [] (at_end worlds h v m some here))
 
-pub nothing_left : (worlds : List World) (a : At) (text : List ℕ) → length a.pending ≡ 0 → text ≡ [] → IsWhole a.refused text (outcome_of_rest worlds a [])
-nothing_left worlds a text none is = whole_at a.refused text a.machine _ (rw is (rest_nothing worlds a none))
+pub nothing_left : (worlds : List World) (h : Here) (v : View) (m : Option Machine) (text : List ℕ) → length h.pending ≡ 0 → text ≡ [] → IsHere worlds h v m [] → IsWholeAt h.refused text (outcome_of_rest worlds (at_of h m) []) v
+nothing_left worlds h v m text none is here = whole_at h.refused text m (outcome_of_rest worlds (at_of h m) []) v (rw is (rest_nothing worlds (at_of h m) none)) here.ready
 
 -- ---- the end of a line
 
@@ -147,23 +166,32 @@ or_assoc false b c = refl
 
 -- what a line says, from each machine for which the cluster stands
 abbrev pub LineSays : List World → Here → Option Machine → Bool → Bool → List ℕ → Type 0
-LineSays worlds h m malformed refused text = SaysLine malformed refused text (λ (o : Outcome). reading_before worlds h.line m (read_at m h.pending) o) (λ o. o)
+LineSays worlds h m malformed refused text = SaysLine (machine_after worlds m (read_at m h.pending)) malformed refused text (λ (o : Outcome). reading_before worlds h.line m (read_at m h.pending) o) (λ o. o)
 
-pub line_last : (worlds : List World) (h : Here) (m : Option Machine) (ls : List Line) (malformed refused : Bool) (text : List ℕ)
-    → LineSays worlds h m malformed refused text → malformed ≡ true → IsLast text (outcome_of_lines worlds (at_of h m) (Within h.pending ∷ ls))
+pub line_last : (worlds : List World) (h : Here) (c : Option ClusterState) (v : View) (m : Option Machine) (ls : List Line) (malformed refused : Bool) (text : List ℕ)
+    → LineSays worlds h m malformed refused text → IsAt c (machine_after worlds m (read_at m h.pending)) (outcome_of_lines worlds (at_of h m) (Within h.pending ∷ ls)).machine v
+    → malformed ≡ true → IsLastAt text (outcome_of_lines worlds (at_of h m) (Within h.pending ∷ ls)) v
 unfolding outcome_of_lines outcome
-line_last worlds h m ls true refused text said t =
-    said (outcome worlds (h.line + 1) (machine_after worlds m (read_at m h.pending)) ls)
-line_last worlds h m ls false refused text said t = absurd cc
+line_last worlds h c v m ls true refused text said at t =
+    let last = said (outcome worlds (h.line + 1) (machine_after worlds m (read_at m h.pending)) ls) in
+    (last.0, at_last (machine_after worlds m (read_at m h.pending)) (outcome_of_lines worlds (at_of h m) (Within h.pending ∷ ls)) v last.1 at.ready)
+line_last worlds h c v m ls false refused text said at t = absurd cc
 
-pub line_goes_on : (worlds : List World) (h now : Here) (m : Option Machine) (malformed refused : Bool) (text : List ℕ) → LineSays worlds h m malformed refused text
-    → StandsAs now.cluster (machine_after worlds m (read_at m h.pending)) → now.line ≡ h.line + 1 → now.refused ≡ (h.refused || refused)
-    → malformed ≡ false → LinesGo worlds h m now text
+-- a line may be executed that is the next of a script for which the disk is ready
+pub may_go : (worlds : List World) (h : Here) (v : View) (m : Option Machine) (ls : List Line) → IsHereAtLines worlds h v m (Within h.pending ∷ ls)
+    → MayGo h.cluster m (machine_after worlds m (read_at m h.pending)) (outcome_of_lines worlds (at_of h m) (Within h.pending ∷ ls)).machine v
 unfolding outcome_of_lines outcome
-line_goes_on worlds h now m true refused text said machine line is t = absurd cc
-line_goes_on worlds h now m false refused text said machine line is t = record {
+may_go worlds h v m ls here = record { stands = here.stands; ready = here.ready; later = line-later worlds h.line m (read_at m h.pending) ls }
+
+pub line_goes_on : (worlds : List World) (h now : Here) (v : View) (end m : Option Machine) (malformed refused : Bool) (text : List ℕ) → LineSays worlds h m malformed refused text
+    → IsAt now.cluster (machine_after worlds m (read_at m h.pending)) end v → now.line ≡ h.line + 1 → now.refused ≡ (h.refused || refused)
+    → malformed ≡ false → LinesGo worlds h m now v end text
+unfolding outcome_of_lines outcome
+line_goes_on worlds h now v end m true refused text said at line is t = absurd cc
+line_goes_on worlds h now v end m false refused text said at line is t = record {
   machine = machine_after worlds m (read_at m h.pending);
-  stands = machine;
+  stands = at.stands;
+  ready = at.ready;
   goes_on = λ ls.
       let new = at_of now (machine_after worlds m (read_at m h.pending)) in
       let rest = outcome worlds (h.line + 1) (machine_after worlds m (read_at m h.pending)) ls in

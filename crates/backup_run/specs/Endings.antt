@@ -1,15 +1,16 @@
 -- How a run ends, and what each ending says of the script and of what was written.
-use Rattle.std.specs.Prelude.{◌≡◌, ◌≢◌, ◌⊎◌, codes, ℕ, ◌<◌, ◌≤◌, ◌-◌, ◌^◌, Bool, true, false, List, [], ◌∷◌, ◌++◌, take, Option, Some, Result, Ok, Err}
+use Rattle.std.specs.Prelude.{◌≡◌, ◌≢◌, ◌⊎◌, codes, ℕ, ◌<◌, ◌≤◌, ◌-◌, ◌^◌, Bool, true, false, List, [], ◌∷◌, ◌++◌, take, Option, Some, None, Result, Ok, Err}
 use Rattle.std.specs.Str.{bytes_eq}
 use Rattle.outside_world.specs.Told.{told_before}
 use Rattle.outside_world.specs.Causes.{Rose}
 use Rattle.outside_world.specs.Disk.{View}
 use Rattle.outside_world.specs.declared.disk.DiskFault.{DiskFault as Outage}
 use Rattle.outside_world.specs.declared.disk.DiskFault.TheVariants as disk
-use Rattle.outside_world.specs.Moments.{LeavesOnly}
-use Rattle.machine_model.specs.Machine.{World}
+use Rattle.outside_world.specs.Moments.{ChangesOnly, LeavesOnly}
+use Rattle.machine_model.specs.Machine.{World, Machine}
 use Rattle.machine_model.specs.Disks.{IsReady, StandsUntil}
 use Rattle.machine_model.specs.Script.{Outcome, script_outcome, whole_lines}
+use Rattle.cluster_core.specs.Standing.{IsOwnName}
 use Rattle.backup_run.specs.declared.stops.Ending.{Ending}
 use Rattle.backup_run.specs.declared.stops.Ending.TheVariants.{AllDone, SomeRefused, IllFormed, ReadFault, Unwritten, DiskFailed, NoMemory}
 use Rattle.backup_run.specs.declared.stops.Stop.{Stop}
@@ -107,9 +108,32 @@ IsComplete Unwritten = ⊥
 IsComplete DiskFailed = ⊥
 IsComplete NoMemory = ⊥
 
+-- ---- the disk
+
+-- a name of an object of a layer; and one of the cluster that a script names
+abbrev pub IsObjectName : List ℕ → Type 0
+IsObjectName n = (cluster : List ℕ) × IsOwnName cluster n
+
+abbrev pub IsOwnIn : Option Machine → List ℕ → Type 0
+IsOwnIn None n = ⊥
+IsOwnIn (Some m) n = IsOwnName m.name n
+
+-- What a call does to the disk, on the way to an end: whatever a crash leaves at any moment stands for it, and only objects of its cluster
+-- are put and removed.
+pub record Leads (end : Option Machine) (old new : View) : Type 0 where
+  pub leaves : LeavesOnly old new (StandsUntil end)
+  pub changes : ChangesOnly (IsOwnIn end) (IsOwnIn end) old new
+
+-- the text is the last of this outcome, or the whole of it, and the disk holds just the layers of its machine
+abbrev pub IsLastAt : List ℕ → Outcome → View → Type 0
+IsLastAt text o v = IsLast text o × IsReady o.machine o.machine v
+
+abbrev pub IsWholeAt : Bool → List ℕ → Outcome → View → Type 0
+IsWholeAt refused text o v = IsWhole refused text o × IsReady o.machine o.machine v
+
 -- What a run does, where the source tells the script, the sink what it holds, and the disk stands for the script: the bytes that were
 -- read and those that are left, what the sink got in this call, and what the ending says of them. Whatever a crash leaves at any moment
--- stands for the script too, and a complete run leaves a disk that is ready for it.
+-- stands for the script too, only objects of its cluster are put and removed, and a complete run leaves a disk that holds just its layers.
 pub record RunsScript (worlds : List World) (left_new held_new : Option (List ℕ)) (old new : View) (script held : List ℕ) (code : ℕ) : Type 0 where
   pub ending : Ending
   pub read : List ℕ
@@ -120,8 +144,8 @@ pub record RunsScript (worlds : List World) (left_new held_new : Option (List �
   pub left : left_new ≡ Some rest
   pub got : held_new ≡ Some (held ++ written)
   pub answers : Answers ending (script_outcome worlds) read rest written
-  pub leaves : LeavesOnly old new (StandsUntil (script_outcome worlds script).machine)
-  pub ready : IsComplete ending → IsReady (script_outcome worlds script).machine new
+  pub leads : Leads (script_outcome worlds script).machine old new
+  pub ready : IsComplete ending → IsReady (script_outcome worlds script).machine (script_outcome worlds script).machine new
 
 -- ---- causes
 

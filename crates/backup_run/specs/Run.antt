@@ -2,9 +2,10 @@
 use Rattle.std.specs.Prelude.{◌≡◌, ◌<◌, ℕ, Bool, true, false, ◌||◌, List, [], ◌∷◌, ◌++◌, Option, Some, None}
 use Rattle.outside_world.specs.Told.{told_before, before_told}
 use Rattle.outside_world.specs.Disk.{View}
-use Rattle.outside_world.specs.Moments.{LeavesOnly, ChangesOnly, NoName}
+use Rattle.outside_world.specs.Moments.{ChangesOnly}
 use Rattle.machine_model.specs.Machine.{World, Machine, Stepped}
-use Rattle.machine_model.specs.Disks.{IsReady, StandsUntil}
+use Rattle.machine_model.specs.Disks.{IsReady}
+use Rattle.machine_model.specs.Past.{IsLaterIn}
 use Rattle.cluster_core.specs.ClusterView.{ClusterState}
 use Rattle.cluster_core.specs.Standing.{StandsFor}
 use Rattle.cluster_core.specs.Stepping.{IsReplyOf}
@@ -12,7 +13,7 @@ use Rattle.reply_texts.specs.declared.replies.Reply.{Reply}
 use Rattle.machine_model.specs.Script.{Line, put_front, lines, whole_lines, Outcome, outcome}
 use Rattle.backup_run.specs.declared.stops.Stop.{Stop}
 use Rattle.backup_run.specs.declared.stops.Ending.{Ending}
-use Rattle.backup_run.specs.Endings.{IsLast, EndsBy, Answers, AnswersAtEnd, IsComplete, ending_of}
+use Rattle.backup_run.specs.Endings.{IsLast, IsObjectName, EndsBy, Answers, AnswersAtEnd, IsComplete, Leads, ending_of}
 
 -- where a run stands: its machine, the bytes of the line so far, the number of that line, how many bytes the
 -- script may still have, and whether a reply was a refusal
@@ -42,10 +43,10 @@ StandsAs None (Some m) = ⊥
 StandsAs (Some c) None = ⊥
 StandsAs (Some c) (Some m) = StandsFor c m
 
--- the cluster has executed fewer commands than the number of a line, and none of them ended it
+-- the cluster has executed fewer commands than the number of a line, none of them ended it, and it stands for some machine
 abbrev pub HasStepped : Option ClusterState → ℕ → Type 0
 HasStepped None n = Unit {0}
-HasStepped (Some c) n = (c.steps < n) × (c.ended ≡ false)
+HasStepped (Some c) n = (c.steps < n) × (c.ended ≡ false) × ((m : Machine) × StandsFor c m)
 
 -- the reply of a command, and none where there is no cluster, beside the cluster after it
 abbrev pub IsAnswered : Option ClusterState → Option Reply → Option Stepped → Type 0
@@ -78,27 +79,40 @@ outcome_of_rest worlds a bytes = outcome_of_lines worlds a (put_all a.pending (l
 abbrev pub written_before : List ℕ → Outcome → Outcome
 written_before text o = record o { text = text ++ o.text }
 
--- A run goes on from here with some machine, of which `after` says what is to come: what came `before` is a text, and then that.
-pub record Goes {X : Type 0} (new : Here) (text : List ℕ) (before : X → Outcome) (after : At → X → Outcome) : Type 0 where
+-- A run goes on from here with some machine, of which `after` says what is to come: what came `before` is a text, and then that. The disk holds its
+-- layers, on the way to an end.
+pub record Goes {X : Type 0} (new : Here) (v : View) (end : Option Machine) (text : List ℕ) (before : X → Outcome) (after : At → X → Outcome) : Type 0 where
   pub machine : Option Machine
   pub stands : StandsAs new.cluster machine
+  pub ready : IsReady machine end v
   pub goes_on : (more : X) → before more ≡ written_before text (after (at_of new machine) more)
 
--- what a line says: its text, and whether that is a refusal or the last of a malformed script
-abbrev pub SaysLine : {X : Type 0} → Bool → Bool → List ℕ → (X → Outcome) → (X → Outcome) → Type 0
-SaysLine {X} true refused text before after = (more : X) → IsLast text (before more)
-SaysLine {X} false refused text before after = (more : X) → before more ≡ written_before text (with_refused refused (after more))
+-- what a line says: its text, and whether that is a refusal or the last of a malformed script, which ends in this machine
+abbrev pub SaysLine : {X : Type 0} → Option Machine → Bool → Bool → List ℕ → (X → Outcome) → (X → Outcome) → Type 0
+SaysLine {X} m true refused text before after = (more : X) → IsLast text (before more) × ((before more).machine ≡ m)
+SaysLine {X} m false refused text before after = (more : X) → before more ≡ written_before text (with_refused refused (after more))
 
 -- ---- the run and the disk
+
+-- Before a command or a line: the cluster stands for a machine, whose layers the disk holds, and the machine after it leads to an end.
+pub record MayGo (c : Option ClusterState) (m after end : Option Machine) (v : View) : Type 0 where
+  pub stands : StandsAs c m
+  pub ready : IsReady m end v
+  pub later : IsLaterIn after end
+
+-- after it
+pub record IsAt (c : Option ClusterState) (m end : Option Machine) (v : View) : Type 0 where
+  pub stands : StandsAs c m
+  pub ready : IsReady m end v
 
 -- The cluster stands for this machine, and the disk is ready for a script of which these bytes, or these lines, are still to come.
 pub record IsHere (worlds : List World) (h : Here) (v : View) (m : Option Machine) (more : List ℕ) : Type 0 where
   pub stands : StandsAs h.cluster m
-  pub ready : IsReady (outcome_of_rest worlds (at_of h m) more).machine v
+  pub ready : IsReady m (outcome_of_rest worlds (at_of h m) more).machine v
 
 pub record IsHereAtLines (worlds : List World) (h : Here) (v : View) (m : Option Machine) (ls : List Line) : Type 0 where
   pub stands : StandsAs h.cluster m
-  pub ready : IsReady (outcome_of_lines worlds (at_of h m) ls).machine v
+  pub ready : IsReady m (outcome_of_lines worlds (at_of h m) ls).machine v
 
 -- The run stands where these bytes were read and this text was written: whatever comes next, the outcome of all
 -- bytes is that text and then the outcome of what comes; and the text answers just the lines that are whole.
@@ -111,24 +125,24 @@ pub record SessionAt (worlds : List World) (h : Here) (v : View) (whole : List �
   pub machine : Option Machine
   pub stands : StandsAs h.cluster machine
   pub at : StandsAt whole (outcome_of_rest worlds (at_of h machine)) read text
-  pub ready : IsReady (whole (read ++ more)).machine v
+  pub ready : IsReady machine (whole (read ++ more)).machine v
 
 -- a piece of the script was read and answered
 pub record Fed (held_old held_new : Option (List ℕ)) (v_old v_new : View) (old new : Here) (piece : List ℕ) : Type 0 where
   pub text : List ℕ
   pub wrote : held_new ≡ told_before held_old text
   pub stands : (worlds : List World) (whole : List ℕ → Outcome) (read front more : List ℕ) → SessionAt worlds old v_old whole read front (piece ++ more) → SessionAt worlds new v_new whole (read ++ piece) (front ++ text) more
-  pub leaves : (worlds : List World) (whole : List ℕ → Outcome) (read front more : List ℕ) → SessionAt worlds old v_old whole read front (piece ++ more) → LeavesOnly v_old v_new (StandsUntil (whole (read ++ (piece ++ more))).machine)
-  pub changes : ChangesOnly NoName NoName v_old v_new
+  pub leads : (worlds : List World) (whole : List ℕ → Outcome) (read front more : List ℕ) → SessionAt worlds old v_old whole read front (piece ++ more) → Leads (whole (read ++ (piece ++ more))).machine v_old v_new
+  pub changes : ChangesOnly IsObjectName IsObjectName v_old v_new
 
 -- a piece was read, and the run ended in it
 pub record EndedIn (held_old held_new : Option (List ℕ)) (v_old v_new : View) (old : Here) (piece : List ℕ) (stop : Stop) : Type 0 where
   pub text : List ℕ
   pub wrote : held_new ≡ told_before held_old text
   pub ends : (worlds : List World) (whole : List ℕ → Outcome) (read front more : List ℕ) → SessionAt worlds old v_old whole read front (piece ++ more) → EndsBy stop whole (read ++ piece) (front ++ text) more
-  pub leaves : (worlds : List World) (whole : List ℕ → Outcome) (read front more : List ℕ) → SessionAt worlds old v_old whole read front (piece ++ more) → LeavesOnly v_old v_new (StandsUntil (whole (read ++ (piece ++ more))).machine)
-  pub ready : IsComplete (ending_of stop) → (worlds : List World) (whole : List ℕ → Outcome) (read front more : List ℕ) → SessionAt worlds old v_old whole read front (piece ++ more) → IsReady (whole (read ++ (piece ++ more))).machine v_new
-  pub changes : ChangesOnly NoName NoName v_old v_new
+  pub leads : (worlds : List World) (whole : List ℕ → Outcome) (read front more : List ℕ) → SessionAt worlds old v_old whole read front (piece ++ more) → Leads (whole (read ++ (piece ++ more))).machine v_old v_new
+  pub ready : IsComplete (ending_of stop) → (worlds : List World) (whole : List ℕ → Outcome) (read front more : List ℕ) → SessionAt worlds old v_old whole read front (piece ++ more) → IsReady (whole (read ++ (piece ++ more))).machine (whole (read ++ (piece ++ more))).machine v_new
+  pub changes : ChangesOnly IsObjectName IsObjectName v_old v_new
 
 -- these bytes were read since the run stood at `old`
 pub record Running (left_old left_now held_old held_now : Option (List ℕ)) (v_old v_now : View) (old now : Here) : Type 0 where
@@ -141,9 +155,9 @@ pub record AtInputEnd (held_old held_new : Option (List ℕ)) (v_old v_new : Vie
   pub text : List ℕ
   pub wrote : held_new ≡ told_before held_old text
   pub answers : (worlds : List World) (m : Option Machine) → IsHere worlds old v_old m [] → AnswersAtEnd ending text (outcome_of_rest worlds (at_of old m) [])
-  pub leaves : (worlds : List World) (m : Option Machine) → IsHere worlds old v_old m [] → LeavesOnly v_old v_new (StandsUntil (outcome_of_rest worlds (at_of old m) []).machine)
-  pub ready : IsComplete ending → (worlds : List World) (m : Option Machine) → IsHere worlds old v_old m [] → IsReady (outcome_of_rest worlds (at_of old m) []).machine v_new
-  pub changes : ChangesOnly NoName NoName v_old v_new
+  pub leads : (worlds : List World) (m : Option Machine) → IsHere worlds old v_old m [] → Leads (outcome_of_rest worlds (at_of old m) []).machine v_old v_new
+  pub ready : IsComplete ending → (worlds : List World) (m : Option Machine) → IsHere worlds old v_old m [] → IsReady (outcome_of_rest worlds (at_of old m) []).machine (outcome_of_rest worlds (at_of old m) []).machine v_new
+  pub changes : ChangesOnly IsObjectName IsObjectName v_old v_new
 
 -- what a run read and wrote since it stood at `old`, and what it leaves of the disk
 pub record Ran (left_old left_new held_old held_new : Option (List ℕ)) (v_old v_new : View) (old : Here) (ending : Ending) : Type 0 where
@@ -152,6 +166,6 @@ pub record Ran (left_old left_new held_old held_new : Option (List ℕ)) (v_old 
   pub source : left_old ≡ before_told read left_new
   pub sink : held_new ≡ told_before held_old written
   pub answers : (worlds : List World) (whole : List ℕ → Outcome) (more : List ℕ) → left_new ≡ Some more → SessionAt worlds old v_old whole [] [] (read ++ more) → Answers ending whole read more written
-  pub leaves : (worlds : List World) (whole : List ℕ → Outcome) (more : List ℕ) → left_new ≡ Some more → SessionAt worlds old v_old whole [] [] (read ++ more) → LeavesOnly v_old v_new (StandsUntil (whole (read ++ more)).machine)
-  pub ready : IsComplete ending → (worlds : List World) (whole : List ℕ → Outcome) (more : List ℕ) → left_new ≡ Some more → SessionAt worlds old v_old whole [] [] (read ++ more) → IsReady (whole (read ++ more)).machine v_new
-  pub changes : ChangesOnly NoName NoName v_old v_new
+  pub leads : (worlds : List World) (whole : List ℕ → Outcome) (more : List ℕ) → left_new ≡ Some more → SessionAt worlds old v_old whole [] [] (read ++ more) → Leads (whole (read ++ more)).machine v_old v_new
+  pub ready : IsComplete ending → (worlds : List World) (whole : List ℕ → Outcome) (more : List ℕ) → left_new ≡ Some more → SessionAt worlds old v_old whole [] [] (read ++ more) → IsReady (whole (read ++ more)).machine (whole (read ++ more)).machine v_new
+  pub changes : ChangesOnly IsObjectName IsObjectName v_old v_new

@@ -1,15 +1,16 @@
 //! What a line is answered.
-ghost use Rattle.std.specs.Prelude.{◌≡◌, ◌<◌, ◌≤◌, ◌+◌, true, false, is_none, IfOk, OnOk, List, [], Option};
+ghost use Rattle.std.specs.Prelude.{◌≡◌, ◌<◌, ◌≤◌, ◌+◌, true, false, is_none, IfOk, OnOk, List, [], Option, Some};
 ghost use Rattle.outside_world.specs.Disk.{DiskHasCause};
-ghost use Rattle.outside_world.specs.Moments.{ChangesOnly, LeavesOnly, NoName};
+ghost use Rattle.outside_world.specs.Moments.{ChangesOnly};
 ghost use Rattle.reply_texts.specs.declared.replies.Response.{Response};
 ghost use Rattle.machine_model.specs.Machine.{World, Machine};
-ghost use Rattle.machine_model.specs.Disks.{IsReady, StandsUntil};
+ghost use Rattle.machine_model.specs.Disks.{IsReady};
 ghost use Rattle.machine_model.specs.Step.{step};
 ghost use Rattle.machine_model.specs.Script.{first_machine, after_reply, reply_before, response_of, machine_of, command_step, reading_before, machine_after, read_at, Outcome, malformed_text};
-ghost use Rattle.cluster_core.specs.Standing.{StandsFor};
+ghost use Rattle.cluster_core.specs.Standing.{MayStep, StandsFor};
 ghost use Rattle.cluster_core.specs.Stepping.{IsReplied, IsReplyOf};
-ghost use Rattle.backup_run.specs.Run.{SaysLine, StandsAs, HasStepped, IsAnswered};
+ghost use Rattle.backup_run.specs.Endings.{IsObjectName, Leads};
+ghost use Rattle.backup_run.specs.Run.{SaysLine, HasStepped, IsAnswered, IsAt, MayGo};
 
 use cluster_core::{Cluster, Limits, RunFault};
 use command_lang::{Command, LineFault, parse_line};
@@ -30,9 +31,10 @@ pub struct Said {
 
 /// The cluster with which a run begins.
 #[tactic(auto, unfolding(machine_model::specs::Script::first_machine))]
-fn first_cluster(alloc: Global, name: Name) -> Cluster
-    ensures stands { StandsFor result (first_machine name) }
-    ensures steps { (result.steps ≡ 0) × (result.ended ≡ false) }
+fn first_cluster(alloc: Global, name: Name) -> Result<Cluster, Memory>
+    ensures stands { IfOk result (λ c. StandsFor c (first_machine name)) }
+    ensures steps { IfOk result (λ c. c.steps ≡ 0) }
+    ensures ended { IfOk result (λ c. c.ended ≡ false) }
 {
     let limits = Limits {
         events: 1_000_000,
@@ -43,7 +45,7 @@ fn first_cluster(alloc: Global, name: Name) -> Cluster
 
 /// The text of a reply.
 fn reply_said(reply: Reply) -> Said
-    ensures { (response : Response) → IsReplyOf response reply → SaysLine result.malformed result.refused result.text.items (λ (o : Outcome). after_reply response o) (λ o. o) }
+    ensures { (m : Option Machine) (response : Response) → IsReplyOf response reply → SaysLine m result.malformed result.refused result.text.items (λ (o : Outcome). after_reply response o) (λ o. o) }
 {
     Said {
         refused: reply.refusal.is_some(),
@@ -60,10 +62,12 @@ fn stepped<D: Disk>(
 ) -> Result<Reply, DiskFault>
     requires going { cluster.old.ended ≡ false }
     requires few { cluster.old.steps < 67108864 }
-    ensures step { (worlds : List World) (m : Machine) (end : Option Machine) → StandsFor cluster.old m → IsReady end (D.view disk.old) → IfOk result (λ r. IsReplied cluster.new r (step worlds m command.now)) }
-    ensures ready { (end : Option Machine) → IsReady end (D.view disk.old) → OnOk result (IsReady end (D.view disk.new)) }
-    ensures leaves { (end : Option Machine) → IsReady end (D.view disk.old) → LeavesOnly (D.view disk.old) (D.view disk.new) (StandsUntil end) }
-    ensures changes { ChangesOnly NoName NoName (D.view disk.old) (D.view disk.new) }
+    requires stands { (m : Machine) × StandsFor cluster.old m }
+    ensures step { (worlds : List World) (m end : Machine) → MayStep cluster.old m (step worlds m command.now) end (D.view disk.old) → IfOk result (λ r. IsReplied cluster.new r (step worlds m command.now)) }
+    ensures ready { (worlds : List World) (m end : Machine) → MayStep cluster.old m (step worlds m command.now) end (D.view disk.old) → OnOk result (IsReady (Some (step worlds m command.now).machine) (Some end) (D.view disk.new)) }
+    ensures leads { (worlds : List World) (m end : Machine) → MayStep cluster.old m (step worlds m command.now) end (D.view disk.old) → Leads (Some end) (D.view disk.old) (D.view disk.new) }
+    ensures stays { OnOk result ((m : Machine) × StandsFor cluster.new m) }
+    ensures changes { ChangesOnly IsObjectName IsObjectName (D.view disk.old) (D.view disk.new) }
     ensures steps { OnOk result ((cluster.new.steps ≡ cluster.old.steps + 1) × (cluster.new.ended ≡ false)) }
     ensures cause { DiskHasCause (D.view disk.old).faults (D.view disk.new).faults result }
 {
@@ -87,10 +91,10 @@ fn execute<D: Disk>(
     requires stepped { HasStepped cluster.old number }
     requires first { 0 < number }
     requires few { number ≤ 67108864 }
-    ensures step { (worlds : List World) (m end : Option Machine) → StandsAs cluster.old m → IsReady end (D.view disk.old) → IfOk result (λ r. IsAnswered cluster.new r (command_step worlds m command.now)) }
-    ensures ready { (end : Option Machine) → IsReady end (D.view disk.old) → OnOk result (IsReady end (D.view disk.new)) }
-    ensures leaves { (end : Option Machine) → IsReady end (D.view disk.old) → LeavesOnly (D.view disk.old) (D.view disk.new) (StandsUntil end) }
-    ensures changes { ChangesOnly NoName NoName (D.view disk.old) (D.view disk.new) }
+    ensures step { (worlds : List World) (m end : Option Machine) → MayGo cluster.old m (machine_of (command_step worlds m command.now)) end (D.view disk.old) → IfOk result (λ r. IsAnswered cluster.new r (command_step worlds m command.now)) }
+    ensures ready { (worlds : List World) (m end : Option Machine) → MayGo cluster.old m (machine_of (command_step worlds m command.now)) end (D.view disk.old) → OnOk result (IsReady (machine_of (command_step worlds m command.now)) end (D.view disk.new)) }
+    ensures leads { (worlds : List World) (m end : Option Machine) → MayGo cluster.old m (machine_of (command_step worlds m command.now)) end (D.view disk.old) → Leads end (D.view disk.old) (D.view disk.new) }
+    ensures changes { ChangesOnly IsObjectName IsObjectName (D.view disk.old) (D.view disk.new) }
     ensures stepped { IfOk result (λ _. HasStepped cluster.new (number + 1)) }
     ensures cause { DiskHasCause (D.view disk.old).faults (D.view disk.new).faults result }
 {
@@ -100,7 +104,7 @@ fn execute<D: Disk>(
             let Command::Cluster { name } = command else {
                 return Ok(None);
             };
-            let mut made = first_cluster(alloc, name.copy(alloc)?);
+            let mut made = first_cluster(alloc, name.copy(alloc)?)?;
             let reply = stepped(&mut made, disk, command)?;
             *cluster = Some(made);
             Ok(Some(reply))
@@ -140,12 +144,11 @@ fn command_said<D: Disk>(
     requires stepped { HasStepped cluster.old number }
     requires first { 0 < number }
     requires few { number ≤ 67108864 }
-    ensures said { (worlds : List World) (m end : Option Machine) → StandsAs cluster.old m → IsReady end (D.view disk.old) → IfOk result (λ said. SaysLine said.malformed said.refused said.text.items
+    ensures said { (worlds : List World) (m end : Option Machine) → MayGo cluster.old m (machine_of (command_step worlds m command.now)) end (D.view disk.old) → IfOk result (λ said. SaysLine (machine_of (command_step worlds m command.now)) said.malformed said.refused said.text.items
         (λ (o : Outcome). reply_before number (response_of (command_step worlds m command.now)) o) (λ o. o)) }
-    ensures machine { (worlds : List World) (m end : Option Machine) → StandsAs cluster.old m → IsReady end (D.view disk.old) → OnOk result (StandsAs cluster.new (machine_of (command_step worlds m command.now))) }
-    ensures ready { (end : Option Machine) → IsReady end (D.view disk.old) → OnOk result (IsReady end (D.view disk.new)) }
-    ensures leaves { (end : Option Machine) → IsReady end (D.view disk.old) → LeavesOnly (D.view disk.old) (D.view disk.new) (StandsUntil end) }
-    ensures changes { ChangesOnly NoName NoName (D.view disk.old) (D.view disk.new) }
+    ensures at { (worlds : List World) (m end : Option Machine) → MayGo cluster.old m (machine_of (command_step worlds m command.now)) end (D.view disk.old) → OnOk result (IsAt cluster.new (machine_of (command_step worlds m command.now)) end (D.view disk.new)) }
+    ensures leads { (worlds : List World) (m end : Option Machine) → MayGo cluster.old m (machine_of (command_step worlds m command.now)) end (D.view disk.old) → Leads end (D.view disk.old) (D.view disk.new) }
+    ensures changes { ChangesOnly IsObjectName IsObjectName (D.view disk.old) (D.view disk.new) }
     ensures stepped { IfOk result (λ _. HasStepped cluster.new (number + 1)) }
     ensures cause { DiskHasCause (D.view disk.old).faults (D.view disk.new).faults result }
 {
@@ -185,12 +188,11 @@ pub fn line_said<D: Disk>(
     requires stepped { HasStepped cluster.old number }
     requires first { 0 < number }
     requires few { number ≤ 67108864 }
-    ensures said { (worlds : List World) (m end : Option Machine) → StandsAs cluster.old m → IsReady end (D.view disk.old) → IfOk result (λ said. SaysLine said.malformed said.refused said.text.items
+    ensures said { (worlds : List World) (m end : Option Machine) → MayGo cluster.old m (machine_after worlds m (read_at m line.now)) end (D.view disk.old) → IfOk result (λ said. SaysLine (machine_after worlds m (read_at m line.now)) said.malformed said.refused said.text.items
         (λ (o : Outcome). reading_before worlds number m (read_at m line.now) o) (λ o. o)) }
-    ensures machine { (worlds : List World) (m end : Option Machine) → StandsAs cluster.old m → IsReady end (D.view disk.old) → OnOk result (StandsAs cluster.new (machine_after worlds m (read_at m line.now))) }
-    ensures ready { (end : Option Machine) → IsReady end (D.view disk.old) → OnOk result (IsReady end (D.view disk.new)) }
-    ensures leaves { (end : Option Machine) → IsReady end (D.view disk.old) → LeavesOnly (D.view disk.old) (D.view disk.new) (StandsUntil end) }
-    ensures changes { ChangesOnly NoName NoName (D.view disk.old) (D.view disk.new) }
+    ensures at { (worlds : List World) (m end : Option Machine) → MayGo cluster.old m (machine_after worlds m (read_at m line.now)) end (D.view disk.old) → OnOk result (IsAt cluster.new (machine_after worlds m (read_at m line.now)) end (D.view disk.new)) }
+    ensures leads { (worlds : List World) (m end : Option Machine) → MayGo cluster.old m (machine_after worlds m (read_at m line.now)) end (D.view disk.old) → Leads end (D.view disk.old) (D.view disk.new) }
+    ensures changes { ChangesOnly IsObjectName IsObjectName (D.view disk.old) (D.view disk.new) }
     ensures stepped { IfOk result (λ _. HasStepped cluster.new (number + 1)) }
     ensures cause { DiskHasCause (D.view disk.old).faults (D.view disk.new).faults result }
 {

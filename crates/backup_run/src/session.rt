@@ -1,11 +1,10 @@
 //! A run in the middle of its script.
-ghost use Rattle.std.specs.Prelude.{◌≡◌, ◌≢◌, ◌<◌, ◌+◌, ◌∷◌, [], ◌==◌, ◌||◌, not, length, ℕ, IfOk, OnOk, List, Option, true, false};
+ghost use Rattle.std.specs.Prelude.{◌≡◌, ◌≢◌, ◌<◌, ◌+◌, ◌∷◌, [], ◌==◌, ◌||◌, not, length, ℕ, IfOk, List, Option, true, false};
 ghost use Rattle.outside_world.specs.Disk.{DiskHasCause};
-ghost use Rattle.outside_world.specs.Moments.{ChangesOnly, LeavesOnly, NoName};
+ghost use Rattle.outside_world.specs.Moments.{ChangesOnly};
 ghost use Rattle.machine_model.specs.Machine.{World, Machine};
-ghost use Rattle.machine_model.specs.Disks.{IsReady, StandsUntil};
 ghost use Rattle.machine_model.specs.Script.{Line, Within};
-ghost use Rattle.backup_run.specs.Endings.{IsLast, IsWhole};
+ghost use Rattle.backup_run.specs.Endings.{IsLastAt, IsObjectName, IsWholeAt, Leads};
 ghost use Rattle.backup_run.specs.Run.{at_first, at_of, IsHere, IsHereAtLines, Goes, outcome_of_lines, outcome_of_rest};
 
 use crate::answering::{Said, line_said, malformed_said, nothing_said};
@@ -82,12 +81,11 @@ impl Session {
     fn end_line<D: Disk>(&mut self, disk: &mut D) -> Result<Said, DiskFault>
         requires { self.old.line + self.old.room < 67108865 }
         ensures malformed { (worlds : List World) (m : Option Machine) (ls : List Line) → IsHereAtLines worlds self.old (D.view disk.old) m (Within self.old.pending ∷ ls) → IfOk result (λ said. said.malformed ≡ true →
-            IsLast said.text.items (outcome_of_lines worlds (at_of self.old m) (Within self.old.pending ∷ ls))) }
+            IsLastAt said.text.items (outcome_of_lines worlds (at_of self.old m) (Within self.old.pending ∷ ls)) (D.view disk.new)) }
         ensures goes_on { (worlds : List World) (m : Option Machine) (ls : List Line) → IsHereAtLines worlds self.old (D.view disk.old) m (Within self.old.pending ∷ ls) → IfOk result (λ said. said.malformed ≡ false →
-            Goes self.new said.text.items (λ xs. outcome_of_lines worlds (at_of self.old m) (Within self.old.pending ∷ xs)) (outcome_of_lines worlds)) }
-        ensures ready { (end : Option Machine) → IsReady end (D.view disk.old) → OnOk result (IsReady end (D.view disk.new)) }
-        ensures leaves { (end : Option Machine) → IsReady end (D.view disk.old) → LeavesOnly (D.view disk.old) (D.view disk.new) (StandsUntil end) }
-        ensures changes { ChangesOnly NoName NoName (D.view disk.old) (D.view disk.new) }
+            Goes self.new (D.view disk.new) (outcome_of_lines worlds (at_of self.old m) (Within self.old.pending ∷ ls)).machine said.text.items (λ xs. outcome_of_lines worlds (at_of self.old m) (Within self.old.pending ∷ xs)) (outcome_of_lines worlds)) }
+        ensures leads { (worlds : List World) (m : Option Machine) (ls : List Line) → IsHereAtLines worlds self.old (D.view disk.old) m (Within self.old.pending ∷ ls) → Leads (outcome_of_lines worlds (at_of self.old m) (Within self.old.pending ∷ ls)).machine (D.view disk.old) (D.view disk.new) }
+        ensures changes { ChangesOnly IsObjectName IsObjectName (D.view disk.old) (D.view disk.new) }
         ensures cleared { IfOk result (λ _. self.new.pending ≡ []) }
         ensures room { self.new.room ≡ self.old.room }
         ensures cause { DiskHasCause (D.view disk.old).faults (D.view disk.new).faults result }
@@ -114,12 +112,11 @@ impl Session {
     /// Takes a byte of the script.
     pub fn take_byte<D: Disk>(&mut self, disk: &mut D, byte: u8) -> Result<Said, DiskFault>
         ensures malformed { (worlds : List World) (m : Option Machine) (more : List ℕ) → IsHere worlds self.old (D.view disk.old) m (byte ∷ more) → IfOk result (λ said. said.malformed ≡ true →
-            IsLast said.text.items (outcome_of_rest worlds (at_of self.old m) (byte ∷ more))) }
+            IsLastAt said.text.items (outcome_of_rest worlds (at_of self.old m) (byte ∷ more)) (D.view disk.new)) }
         ensures goes_on { (worlds : List World) (m : Option Machine) (more : List ℕ) → IsHere worlds self.old (D.view disk.old) m (byte ∷ more) → IfOk result (λ said. said.malformed ≡ false →
-            Goes self.new said.text.items (λ xs. outcome_of_rest worlds (at_of self.old m) (byte ∷ xs)) (outcome_of_rest worlds)) }
-        ensures ready { (end : Option Machine) → IsReady end (D.view disk.old) → OnOk result (IsReady end (D.view disk.new)) }
-        ensures leaves { (end : Option Machine) → IsReady end (D.view disk.old) → LeavesOnly (D.view disk.old) (D.view disk.new) (StandsUntil end) }
-        ensures changes { ChangesOnly NoName NoName (D.view disk.old) (D.view disk.new) }
+            Goes self.new (D.view disk.new) (outcome_of_rest worlds (at_of self.old m) (byte ∷ more)).machine said.text.items (λ xs. outcome_of_rest worlds (at_of self.old m) (byte ∷ xs)) (outcome_of_rest worlds)) }
+        ensures leads { (worlds : List World) (m : Option Machine) (more : List ℕ) → IsHere worlds self.old (D.view disk.old) m (byte ∷ more) → Leads (outcome_of_rest worlds (at_of self.old m) (byte ∷ more)).machine (D.view disk.old) (D.view disk.new) }
+        ensures changes { ChangesOnly IsObjectName IsObjectName (D.view disk.old) (D.view disk.new) }
         ensures room { IfOk result (λ said. said.malformed ≡ false → self.new.room + 1 ≡ self.old.room) }
         ensures cleared { IfOk result (λ said. said.malformed ≡ false → byte ≡ 10 → self.new.pending ≡ []) }
         ensures quiet { IfOk result (λ said. said.malformed ≡ false → byte ≢ 10 → said.text.items ≡ []) }
@@ -144,12 +141,11 @@ impl Session {
     /// Takes the end of the input, which may end a line.
     pub fn end_input<D: Disk>(&mut self, disk: &mut D) -> Result<Said, DiskFault>
         ensures malformed { (worlds : List World) (m : Option Machine) → IsHere worlds self.old (D.view disk.old) m [] → IfOk result (λ said. said.malformed ≡ true →
-            IsLast said.text.items (outcome_of_rest worlds (at_of self.old m) [])) }
+            IsLastAt said.text.items (outcome_of_rest worlds (at_of self.old m) []) (D.view disk.new)) }
         ensures whole { (worlds : List World) (m : Option Machine) → IsHere worlds self.old (D.view disk.old) m [] → IfOk result (λ said. said.malformed ≡ false →
-            IsWhole self.new.refused said.text.items (outcome_of_rest worlds (at_of self.old m) [])) }
-        ensures ready { (end : Option Machine) → IsReady end (D.view disk.old) → OnOk result (IsReady end (D.view disk.new)) }
-        ensures leaves { (end : Option Machine) → IsReady end (D.view disk.old) → LeavesOnly (D.view disk.old) (D.view disk.new) (StandsUntil end) }
-        ensures changes { ChangesOnly NoName NoName (D.view disk.old) (D.view disk.new) }
+            IsWholeAt self.new.refused said.text.items (outcome_of_rest worlds (at_of self.old m) []) (D.view disk.new)) }
+        ensures leads { (worlds : List World) (m : Option Machine) → IsHere worlds self.old (D.view disk.old) m [] → Leads (outcome_of_rest worlds (at_of self.old m) []).machine (D.view disk.old) (D.view disk.new) }
+        ensures changes { ChangesOnly IsObjectName IsObjectName (D.view disk.old) (D.view disk.new) }
         ensures cause { DiskHasCause (D.view disk.old).faults (D.view disk.new).faults result }
     {
         if self.is_amid_line() {

@@ -1,6 +1,7 @@
 //! Worked scripts, and each status once.
 ghost use Rattle.std.specs.Prelude.{None};
 
+mod backups;
 mod orders;
 mod rows;
 mod schemas;
@@ -8,7 +9,7 @@ mod times;
 
 use super::*;
 use mvcc_keys::Text;
-use outside_world::{Failed, MemorySink, MemorySource, Source, SureDisk};
+use outside_world::{Disk, Failed, MemorySink, MemorySource, Source, SureDisk};
 use std::alloc::Global;
 use std::test::Fail;
 
@@ -19,19 +20,30 @@ struct Answered {
     text: Vec<u8>,
 }
 
+/// Runs the word between a source and a sink with this room, over a disk.
+fn run_between<S: Source, D: Disk>(
+    alloc: Global,
+    word: &str,
+    source: &mut S,
+    room: usize,
+    disk: &mut D,
+) -> Result<Answered, Fail> {
+    let mut words = Vec::new(alloc);
+    words.push(Text::copy_of(alloc, word)?)?;
+    let mut sink = MemorySink::new(alloc, room, Vec::new(alloc))?;
+    let code = run(alloc, &words, source, &mut sink, disk).code;
+    let text = Vec::from_slice(alloc, sink.held())?;
+    Ok(Answered { code, text })
+}
+
 fn run_from<S: Source>(
     alloc: Global,
     word: &str,
     source: &mut S,
     room: usize,
 ) -> Result<Answered, Fail> {
-    let mut words = Vec::new(alloc);
-    words.push(Text::copy_of(alloc, word)?)?;
-    let mut sink = MemorySink::new(alloc, room, Vec::new(alloc))?;
     let mut disk = SureDisk::new(alloc, Vec::new(alloc))?;
-    let code = run(alloc, &words, source, &mut sink, &mut disk).code;
-    let text = Vec::from_slice(alloc, sink.held())?;
-    Ok(Answered { code, text })
+    run_between(alloc, word, source, room, &mut disk)
 }
 
 fn run_over(alloc: Global, script: &[u8], fails: &[u64]) -> Result<Answered, Fail> {

@@ -1,10 +1,10 @@
 //! The top call.
-ghost use Rattle.std.specs.Prelude.{◌↔◌, true, false, ◌≡◌, ◌<◌, ◌≤◌, List, ℕ, Some, IfOk, length};
-ghost use Rattle.outside_world.specs.Moments.{ChangesOnly, NoName};
+ghost use Rattle.std.specs.Prelude.{◌↔◌, true, false, ◌≡◌, ◌<◌, ◌≤◌, List, ℕ, None, Some, IfOk, length};
+ghost use Rattle.outside_world.specs.Moments.{ChangesOnly};
 ghost use Rattle.machine_model.specs.Machine.{World};
 ghost use Rattle.machine_model.specs.Disks.{IsReady};
 ghost use Rattle.machine_model.specs.Script.{script_outcome};
-ghost use Rattle.backup_run.specs.Endings.{RunsScript, code_of, are_known, CodeCause, ReadCause, WriteCause, StoreCause, StaysLow, Completes, done_ending};
+ghost use Rattle.backup_run.specs.Endings.{IsObjectName, RunsScript, code_of, are_known, CodeCause, ReadCause, WriteCause, StoreCause, StaysLow, Completes, done_ending};
 ghost use Rattle.backup_run.specs.Run.{at_first, Ran, AtInputEnd};
 
 use crate::feeding::{end_input, feed};
@@ -141,19 +141,20 @@ pub fn run<S: Source, K: Sink, D: Disk>(
     ensures idle { are_known words.now ≡ false → (source.new ≡ source.old) × (sink.new ≡ sink.old) × (disk.new ≡ disk.old) }
     // Where the disk stands for the script that the source tells, what the sink got in this call is
     // what the table machine answers to it, all of it or as much as the status says; and whatever a
-    // crash leaves of the disk at any moment of the call stands for the script, too.
+    // crash leaves of the disk at any moment of the call stands for the script, too, so that the
+    // same script ends in the same layers.
     ensures headline { are_known words.now ≡ true → (worlds : List World) (script held : List ℕ) → S.left source.old ≡ Some script → K.held sink.old ≡ Some held →
-        IsReady (script_outcome worlds script).machine (D.view disk.old) →
+        IsReady None (script_outcome worlds script).machine (D.view disk.old) →
         RunsScript worlds (S.left source.new) (K.held sink.new) (D.view disk.old) (D.view disk.new) script held result.code }
-    // No command that is built so far puts or removes an object.
-    ensures changes { ChangesOnly NoName NoName (D.view disk.old) (D.view disk.new) }
+    // Whatever the disk holds, no name but that of an object of a layer is put or removed.
+    ensures changes { ChangesOnly IsObjectName IsObjectName (D.view disk.old) (D.view disk.new) }
     // The counts of faults: 4, 5 and 6 come only where they rose.
     ensures read { CodeCause 4 (S.faults source.old) (S.faults source.new) result.code }
     ensures wrote { CodeCause 5 (K.faults sink.old) (K.faults sink.new) result.code }
     ensures stored { CodeCause 6 (D.view disk.old).faults (D.view disk.new).faults result.code }
     // Without a rise all is answered, or memory was wanted.
     ensures complete { are_known words.now ≡ true → (worlds : List World) (script held : List ℕ) → S.left source.old ≡ Some script → K.held sink.old ≡ Some held →
-        IsReady (script_outcome worlds script).machine (D.view disk.old) →
+        IsReady None (script_outcome worlds script).machine (D.view disk.old) →
         StaysLow (S.faults source.old) (S.faults source.new) → StaysLow (K.faults sink.old) (K.faults sink.new) → StaysLow (D.view disk.old).faults (D.view disk.new).faults →
         Completes held (K.held sink.new) result.code (script_outcome worlds script) }
 {

@@ -69,7 +69,7 @@ module _ (ls : List Layer) where
           last : (ps : List ℕ) × IsWay (join_between zero_time m.end) ls ps → time_eq m.end l.start ≡ true → (ps : List ℕ) × IsWay (join_between zero_time l.end) ls ps
           last (ps, way) f = (ps ++ (p ∷ []), snoc m.end l.end None ps p l at f (times.eq-refl l.end) way)
 
-abbrev Among : Time → List Time → Type 0
+abbrev pub Among : {X : Type 0} → X → List X → Type 0
 Among x [] = ⊥
 Among x (y ∷ ys) = (x ≡ y) ⊎ Among x ys
 

@@ -3,3 +3,4 @@ pub mod Cover
 pub mod Steps
 pub mod Tasks
 pub mod Reaching
+pub mod Best

@@ -2,6 +2,7 @@
 //! between them.
 ghost use Rattle.std.specs.Prelude.{◌≡◌, MatchResult};
 ghost use Rattle.chain_resolver.specs.Ways.{AreOrdered, IsBestWay, NoWay, chain_to, join_between, span_over};
+ghost use Rattle.chain_resolver.specs.Best.{Chain, UncoveredBy, cover};
 ghost use Rattle.chain_resolver.specs.Cover.{CoverFaultIs, JoinFaultIs, SpanFaultIs};
 
 use crate::faults::{CoverFault, JoinFault, SpanFault};
@@ -32,7 +33,8 @@ fn cover_fault(alloc: Global, layers: &[Layer], t: Hlc) -> CoverFault
 /// NotCovered are zero.
 pub fn resolve(alloc: Global, layers: &[Layer], t: Hlc) -> Result<Vec<usize>, CoverFault>
     requires { AreOrdered layers.now }
-    ensures { MatchResult result (λ places. IsBestWay (chain_to t) layers.now places.items) (λ fault. CoverFaultIs layers.now t fault) }
+    ensures best { MatchResult result (λ places. IsBestWay (chain_to t) layers.now places.items) (λ fault. CoverFaultIs layers.now t fault) }
+    ensures cover { MatchResult result (λ places. cover layers.now t ≡ Chain places.items) (λ fault. UncoveredBy fault (cover layers.now t)) }
 {
     match best_way(alloc, layers, &Task::Chain(t)) {
         Ok(Some(places)) => Ok(places),

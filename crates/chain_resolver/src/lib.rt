@@ -14,7 +14,7 @@ mod task;
 
 pub use chains::{join, resolve, span};
 pub use faults::{CoverFault, JoinFault, SpanFault};
-pub use laws::{best_way_is_unique, reason_is_unique};
+pub use laws::{best_way_is_unique, covers_are_found, reason_is_unique};
 pub use layer::{Layer, layers_are_ordered, serves};
 
 #[cfg(test)]

@@ -1,7 +1,8 @@
 -- The commands that add facts: what their tests refuse, and what they leave where all pass.
 use Rattle.std.proofs.Common.{◌≡◌, inl, inr, ℕ, ◌+◌, nat_lt, refl, sym, ap, ◌∙◌, subst, List, [], ◌∷◌, map, slice_set, length, Option, Some, None}
 use Rattle.mvcc_keys.specs.Times.{Time, next}
-use Rattle.table_descriptors.specs.Descriptors.{Schema}
+use Rattle.row_codec.specs.declared.rows.Kind.{Kind}
+use Rattle.table_descriptors.specs.Descriptors.{Schema, key_kinds}
 use Rattle.fact_model.specs.Facts.{Has, date}
 use Rattle.history_model.specs.Rows.{RowFact}
 use Rattle.history_model.specs.Histories.{Table, Found}
@@ -18,6 +19,7 @@ use Rattle.machine_model.specs.Refusals.{rows_refusal}
 use Rattle.machine_model.specs.TableRows.{adding, with_facts as with_rows, room_refusal, extended}
 use Rattle.cluster_core.specs.ClusterView.{ClusterState}
 use Rattle.cluster_core.specs.Finding.{found_in}
+use Rattle.layer_objects.specs.Storable.{IsSized}
 use Rattle.layer_objects.specs.Objects.{rows_of, table_kinds, by_id}
 use Rattle.cluster_core.specs.Standing.{Keeps, machine_of, IsStepped, Refuses}
 use Rattle.cluster_core.proofs.Tables.{by_id-at}
@@ -66,10 +68,10 @@ module _ (name : List ℕ × List ℕ) (fault : Schema → Option RowsFault) (fa
       ∙ (passes m (offline_refusal name d) _ _ public ∙ (passes m (rows_refusal (fault d)) _ _ (ap rows_refusal fine) ∙ stops m (room_refusal m (length (facts d t))) [] _ refusal (room-is c tables n t d k len ∙ e)))
 
   pub adds-done : (c : ClusterState) (store : MvccMap) (t : Time) (id : ℕ) (d : Schema) (n : ℕ) → next c.clock ≡ Some t → found_in c.schemas name t ≡ Some (id, d) → offline_refusal name d ≡ None → fault d ≡ None
-      → length (facts d t) ≡ n → refusal_if (nat_lt c.most_events (c.events + n)) TooManyEvents ≡ None → ((f : RowFact) → Has f (facts d t) → date f ≡ t)
+      → length (facts d t) ≡ n → refusal_if (nat_lt c.most_events (c.events + n)) TooManyEvents ≡ None → ((f : RowFact) → Has f (facts d t) → date f ≡ t) → ((f : RowFact) → Has f (facts d t) → IsSized (key_kinds d) f)
       → ((T : RowTables) → HasRows (λ h. KeepsAll c.store.tables.entries h) T → IsTableOf T d → MayAddAll T d.id (facts d t) → HasRows (λ h. KeepsAll store.tables.entries h) (with_facts d.id (facts d t) T))
       → (tables : List Table) → Keeps c tables → IsStepped (grown c store t n) (Response.Answered (answer t)) (means (machine_of c tables))
-  adds-done c store t id d n draw found public fine len room dated adds tables k =
+  adds-done c store t id d n draw found public fine len room dated sized adds tables k =
       let m = machine_of c tables in
       let w = sees c.schemas tables name t k.schemas id d found in
       let own = (k.orderly w.place w.table w.got).schemas d (in_force-has w.table.descriptors t d w.force) in
@@ -79,7 +81,7 @@ module _ (name : List ℕ × List ℕ) (fault : Schema → Option RowsFault) (fa
       let has = adds (rows_of tables) k.rows (kinds ∙ own.kinds_are) fresh in
       let has' : HasRows (λ h. KeepsAll store.tables.entries h) (with_facts (100 + w.place) (facts d t) (rows_of tables)) = subst (λ (i : ℕ). HasRows (λ h. KeepsAll store.tables.entries h) (with_facts i (facts d t) (rows_of tables))) own.id_is has in
       does (grown c store t n) (slice_set tables w.place (extended w.table (facts d t))) (answer t) _
-      (subst (λ (x : ℕ). Keeps (grown c store t x) (slice_set tables w.place (extended w.table (facts d t)))) len (keeps-more c store t tables w.place w.table (facts d t) k w.got lt dated has'))
+      (subst (λ (x : ℕ). Keeps (grown c store t x) (slice_set tables w.place (extended w.table (facts d t)))) len (keeps-more c store t tables w.place w.table (facts d t) k w.got lt dated (λ f is. subst (λ (ks : List Kind). IsSized ks f) (sym own.kinds_are) (sized f is)) has'))
       (reach c tables t id d draw k w
       ∙ (passes m (offline_refusal name d) _ _ public ∙ (passes m (rows_refusal (fault d)) _ _ (ap rows_refusal fine) ∙ passes m (room_refusal m (length (facts d t))) [] _ (room-is c tables n t d k len ∙ room))))
 

@@ -19,11 +19,11 @@ use Rattle.machine_model.specs.Machine.{World, Machine, Stepped, refused, answer
 use Rattle.machine_model.specs.Refusals.{refusal_of_catalog, refusal_of_rows, catalog_refusal, rows_refusal}
 use Rattle.cluster_core.specs.declared.fault.RunFault.{RunFault}
 use Rattle.cluster_core.specs.declared.halts.Halt.{Halt}
-use Rattle.cluster_core.specs.declared.halts.Halt.TheVariants.{Refused, Memory}
+use Rattle.cluster_core.specs.declared.halts.Halt.TheVariants.{Refused, Disk, Memory}
 use Rattle.cluster_core.specs.ClusterView.{ClusterState}
 use Rattle.cluster_core.specs.Finding.{found_in, IsMissing}
 use Rattle.cluster_core.specs.Halting.{halt_of}
-use Rattle.cluster_core.specs.Standing.{Keeps, machine_of, StandsFor, IsStepped, RefusedBy, Refuses, Does}
+use Rattle.cluster_core.specs.Standing.{Keeps, machine_of, HasTables, IsStepped, RefusedBy, Refuses, Does}
 use Rattle.cluster_core.specs.Stepping.{IsReplyOf, IsReplied}
 use Rattle.reply_texts.specs.declared.replies.Reply.{Reply}
 use Rattle.fact_model.proofs.TimeLaws.{le-refl}
@@ -34,10 +34,12 @@ use Rattle.cluster_core.proofs.Looking.{Sees, misses}
 
 halted : (old new : ClusterState) (meaning : Machine → Stepped) (halt : Halt) (test : Option Refusal) → new ≡ old → RefusedBy halt test → ((refusal : Refusal) → test ≡ Some refusal → Refuses old meaning refusal) → Does old new meaning (Err halt)
 halted old new meaning (Refused refusal) test same by go = (same, go refusal by)
+halted old new meaning Disk test same by go = absurd by
 halted old new meaning Memory test same by go = tt
 
 missed : (old : ClusterState) (meaning : Machine → Stepped) (halt : Halt) (name : List ℕ × List ℕ) (found : Option (ℕ × Schema)) → IsMissing name found halt → (found ≡ None → Refuses old meaning (NoSuchTable name)) → Does old old meaning (Err halt)
 missed old meaning (Refused refusal) name found is go = (refl, rw is.1 (go is.0))
+missed old meaning Disk name found is go = absurd is
 missed old meaning Memory name found is go = tt
 
 returned : (old new : ClusterState) (meaning : Machine → Stepped) (r : Result Answer Halt) (e : Halt) → IsErrAnd r (λ y. y ≡ e) → Does old new meaning (Err e) → Does old new meaning r
@@ -99,31 +101,6 @@ finds c tables name t id d change k w = ap (λ f. with_found (machine_of c table
 -- the catalog of the machine
 pub catalog-is : (c : ClusterState) (tables : List Table) → Keeps c tables → catalog_of (machine_of c tables) ≡ c.schemas
 catalog-is c tables k = ap (λ (xs : List (List Schema)). record { databases = c.schemas.databases; tables = xs; limit = c.schemas.limit }) k.schemas
-
--- ---- steps
-
--- counting commands, and whether one ended the cluster, changes nothing of what it stands for
-pub recounted : (c : ClusterState) (steps : ℕ) (ended : Bool) (m : Machine) → StandsFor c m → StandsFor (record c { steps = steps; ended = ended }) m
-recounted c steps ended m s = record { tables = s.tables; keeps = keeps-as c (record c { steps = steps; ended = ended }) s.tables s.keeps refl refl refl (le-refl c.clock); machine_is = s.machine_is }
-
-pub step-answered : (old new : ClusterState) (meaning : Machine → Stepped) (answer : Answer) → Does old new meaning (Ok answer) → (m : Machine) → StandsFor old m → IsStepped new (Response.Answered answer) (meaning m)
-step-answered old new meaning answer does m s = subst (λ (x : Machine). IsStepped new (Response.Answered answer) (meaning x)) (sym s.machine_is) (does s.tables s.keeps)
-
-pub step-refused : (old new : ClusterState) (meaning : Machine → Stepped) (refusal : Refusal) (halt : Halt) → halt ≡ Refused refusal → Does old new meaning (Err halt) → (m : Machine) → StandsFor old m → IsStepped new (Response.Refused refusal) (meaning m)
-step-refused old new meaning refusal halt is-halt does-halt m s =
-    let does = subst (λ (h : Halt). Does old new meaning (Err h)) is-halt does-halt in
-    let is : meaning m ≡ refused m refusal = subst (λ (x : Machine). meaning x ≡ refused x refusal) (sym s.machine_is) (does.1 s.tables s.keeps) in
-    subst (λ (x : Stepped). IsStepped new (Response.Refused refusal) x) (sym is) (record { stands = subst (λ (c : ClusterState). StandsFor c m) (sym does.0) s; response_is = refl })
-
--- the reply of a response is that of the machine's
-pub replied : (c : ClusterState) (response : Response) (reply : Reply) (s : Stepped) → IsStepped c response s → IsReplyOf response reply → IsReplied c reply s
-replied c response reply s done is = record { stands = done.stands; reply_is = subst (λ (r : Response). IsReplyOf r reply) done.response_is is }
-
-pub step-replied : (old mid : ClusterState) (steps : ℕ) (ended : Bool) (r : Result Reply RunFault) (meaning : List World → Machine → Stepped)
-    → IfOk r (λ x. (worlds : List World) (m : Machine) → StandsFor (record old { steps = steps }) m → IsReplied mid x (meaning worlds m)) → (worlds : List World) (m : Machine) → StandsFor old m
-    → IfOk r (λ x. IsReplied (record mid { ended = ended }) x (meaning worlds m))
-step-replied old mid steps ended r meaning done worlds m s = IfOk-weaker r _ _ (λ x f.
-    let d = f worlds m (recounted old steps old.ended m s) in record { stands = recounted mid mid.steps ended (meaning worlds m).machine d.stands; reply_is = d.reply_is }) done
 
 -- ---- answers
 

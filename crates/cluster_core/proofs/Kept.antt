@@ -1,5 +1,5 @@
 -- The machines that a cluster stands for, where a command changes a table, adds one or moves the clock.
-use Rattle.std.proofs.Common.{◌≡◌, ◌≢◌, inl, inr, ℕ, ◌+◌, ◌==◌, nat_lt, Bool, true, false, cond, refl, sym, ap, ◌∙◌, subst, arith, List, [], ◌∷◌, ◌++◌, map, length, Option, Some, None, option_map, unwrap_or, slice_get, slice_set, reverse, get_or}
+use Rattle.std.proofs.Common.{◌≡◌, ◌≢◌, inl, inr, ℕ, ◌+◌, ◌==◌, nat_lt, Bool, true, false, ◌&&◌, cond, refl, sym, ap, ◌∙◌, subst, arith, List, [], ◌∷◌, ◌++◌, map, length, Option, Some, None, option_map, unwrap_or, slice_get, slice_set, reverse, get_or}
 use Rattle.std.proofs.Math.Path.{fun_ext}
 use Rattle.std.proofs.lemmas.Bool.{cases_Bool}
 use Rattle.std.proofs.lemmas.Bool.Decides.{nat_tests}
@@ -10,7 +10,12 @@ use Rattle.mvcc_keys.specs.Times.{Time, time_lt, time_le, zero_time, next}
 use Rattle.table_descriptors.specs.Descriptors.{Schema, key_kinds}
 use Rattle.fact_model.specs.Facts.{Has, date}
 use Rattle.fact_model.proofs.Members.{has-append_cases}
-use Rattle.fact_model.proofs.TimeLaws.{le-refl, le-trans, le-from_lt, lt-le-absurd}
+use Rattle.fact_model.proofs.TimeLaws.{le-refl, le-trans, le-from_lt, lt-le-absurd, lt-weaker}
+use Rattle.row_codec.specs.declared.rows.Kind.{Kind}
+use Rattle.row_codec.proofs.KeyOrder.{both_true}
+use Rattle.introduced_spans.specs.PlanLaws.{ascend_after}
+use Rattle.layer_objects.specs.Storable.{IsSized}
+use Rattle.layer_book.specs.Books.{no_layers}
 use Rattle.history_model.specs.Rows.{RowFact}
 use Rattle.history_model.specs.Histories.{Table, in_force, schemas_of, accepted}
 use Rattle.version_store.specs.Tables.{no_facts}
@@ -62,6 +67,10 @@ later s t id table le o = record {
   schemas = o.schemas;
   facts = λ f has. le-trans (date f) s t (o.facts f has) le;
   threshold = le-trans table.threshold s t o.threshold le;
+  sized = o.sized;
+  dated = λ d has. le-trans d.modified s t (o.dated d has) le;
+  ascend = o.ascend;
+  begun = o.begun;
 }
 
 -- the same tables
@@ -72,6 +81,26 @@ keeps-as old new tables k schemas store events le = record {
   events = k.events ∙ sym events;
   orderly = λ i table got. later old.clock new.clock (100 + i) table le (k.orderly i table got);
 }
+
+-- ---- dates
+
+pub zero-least : (t : Time) → time_le zero_time t ≡ true
+zero-least t = grind (arith, nat_tests)
+
+and-true : (a : Bool) → a ≡ true → (a && true) ≡ true
+and-true true e = refl
+and-true false e = cc e
+
+no-push : {X : Type 0} (xs : List X) (x : X) → xs ++ x ∷ [] ≡ [] → ⊥
+no-push [] x e = cc e
+no-push (y ∷ ys) x e = cc e
+
+-- one more descriptor, after a time that none is after
+ascend-more : (first last : Time) (ds : List Schema) (e : Schema) → time_le first last ≡ true → ascend_after first ds ≡ true → ((d : Schema) → Has d ds → time_le d.modified last ≡ true) → time_lt last e.modified ≡ true → ascend_after first (ds ++ e ∷ []) ≡ true
+ascend-more first last [] e le all dated after = and-true (time_lt first e.modified) (lt-weaker first last e.modified le after)
+ascend-more first last (d ∷ ds) e le all dated after =
+    let p = both_true (time_lt first d.modified) (ascend_after d.modified ds) all in
+    rw p.0 (ascend-more d.modified last ds e (dated d (inl refl)) p.1 (λ x has. dated x (inr has)) after)
 
 -- ---- one table changes
 
@@ -110,8 +139,8 @@ abbrev pub grown : ClusterState → MvccMap → Time → ℕ → ClusterState
 grown c store at n = record c { clock = at; store = store; events = c.events + n }
 
 pub keeps-more : (c : ClusterState) (store : MvccMap) (at : Time) (tables : List Table) (i : ℕ) (t : Table) (fs : List RowFact) → Keeps c tables → slice_get tables i ≡ Some t → time_lt c.clock at ≡ true
-    → ((f : RowFact) → Has f fs → date f ≡ at) → HasRows (λ h. KeepsAll store.tables.entries h) (with_facts (100 + i) fs (rows_of tables)) → Keeps (grown c store at (length fs)) (slice_set tables i (extended t fs))
-keeps-more c store at tables i t fs k got lt dated has =
+    → ((f : RowFact) → Has f fs → date f ≡ at) → ((f : RowFact) → Has f fs → IsSized (table_kinds t) f) → HasRows (λ h. KeepsAll store.tables.entries h) (with_facts (100 + i) fs (rows_of tables)) → Keeps (grown c store at (length fs)) (slice_set tables i (extended t fs))
+keeps-more c store at tables i t fs k got lt dated sized has =
     let u = extended t fs in
     let o = k.orderly i t got in
     let le : time_le c.clock at ≡ true = le-from_lt c.clock at lt in
@@ -125,6 +154,10 @@ keeps-more c store at tables i t fs k got lt dated has =
       schemas = o.schemas;
       facts = λ f is. elim (has-append_cases f t.facts fs is) [ inl old ↦ le-trans (date f) c.clock at (o.facts f old) le | inr new ↦ subst (λ (x : Time). time_le x at ≡ true) (sym (dated f new)) (le-refl at) ];
       threshold = le-trans t.threshold c.clock at o.threshold le;
+      sized = λ f is. elim (has-append_cases f t.facts fs is) [ inl old ↦ o.sized f old | inr new ↦ sized f new ];
+      dated = λ d is. le-trans d.modified c.clock at (o.dated d is) le;
+      ascend = o.ascend;
+      begun = o.begun;
     })
 
 -- such facts may be added
@@ -152,8 +185,8 @@ front-kinds [] d e has = absurd has
 front-kinds (x ∷ xs) d e has = refl
 
 pub keeps-described : (c : ClusterState) (at : Time) (tables : List Table) (i : ℕ) (t : Table) (d e : Schema) → Keeps c tables → slice_get tables i ≡ Some t → time_lt c.clock at ≡ true → Has d t.descriptors
-    → e.id ≡ d.id → key_kinds e ≡ key_kinds d → Keeps (redated c (with_descriptor c.schemas i e) at) (slice_set tables i (described t e))
-keeps-described c at tables i t d e k got lt has id kinds =
+    → e.id ≡ d.id → key_kinds e ≡ key_kinds d → e.modified ≡ at → Keeps (redated c (with_descriptor c.schemas i e) at) (slice_set tables i (described t e))
+keeps-described c at tables i t d e k got lt has id kinds on =
     let u = described t e in
     let o = k.orderly i t got in
     let le : time_le c.clock at ≡ true = le-from_lt c.clock at lt in
@@ -173,8 +206,16 @@ keeps-described c at tables i t d e k got lt has id kinds =
       ];
       facts = λ f is. le-trans (date f) c.clock at (o.facts f is) le;
       threshold = le-trans t.threshold c.clock at o.threshold le;
+      sized = λ f is. subst (λ (ks : List Kind). IsSized ks f) (sym first) (o.sized f is);
+      dated = λ x is. elim (has-append_cases x t.descriptors (e ∷ []) is) [ inl old ↦ le-trans x.modified c.clock at (o.dated x old) le | inr new ↦ now x new ];
+      ascend = ascend-more zero_time c.clock t.descriptors e (zero-least c.clock) o.ascend o.dated (subst (λ (x : Time). time_lt c.clock x ≡ true) (sym on) lt);
+      begun = λ none. absurd (no-push t.descriptors e none);
     })
   where
+    now : (x : Schema) → Has x (e ∷ []) → time_le x.modified at ≡ true
+    now x (inl is) = subst (λ (y : Schema). time_le y.modified at ≡ true) (sym is) (subst (λ (y : Time). time_le y at ≡ true) (sym on) (le-refl at))
+    now x (inr none) = absurd none
+
     last : (x : Schema) → Has x (e ∷ []) → IsOwn (100 + i) (table_kinds (described t e)) x
     last x (inl is) = (let own = (k.orderly i t got).schemas d has in
         subst (IsOwn (100 + i) (table_kinds (described t e))) (sym is) (record { id_is = id ∙ own.id_is; kinds_are = front-kinds t.descriptors d e has ∙ (own.kinds_are ∙ sym kinds) }))
@@ -194,7 +235,7 @@ keeps-raised c store g tables i t k got past has =
     (subst (HasRows (λ h. KeepsAll store.tables.entries h)) (sym (rows-raised tables i t u g got refl refl refl)) has)
     (same-accepted tables i 0 t u got (omega arith) ∙ (let zero : accepted tables + 0 ≡ accepted tables = omega arith in zero ∙ k.events))
     (le-refl c.clock)
-    (record { id_is = o.id_is; schemas = o.schemas; facts = o.facts; threshold = by (time_lt t.threshold g) o.threshold })
+    (record { id_is = o.id_is; schemas = o.schemas; facts = o.facts; threshold = by (time_lt t.threshold g) o.threshold; sized = o.sized; dated = o.dated; ascend = o.ascend; begun = o.begun })
   where
     by : (b : Bool) → time_le t.threshold c.clock ≡ true → time_le (cond b g t.threshold) c.clock ≡ true
     by true le = grind (arith, nat_tests, past)
@@ -202,23 +243,41 @@ keeps-raised c store g tables i t k got past has =
 
 -- ---- a table is added
 
-pub keeps-new : (c : ClusterState) (at : Time) (tables : List Table) (d : Schema) → Keeps c tables → time_lt c.clock at ≡ true → d.id ≡ 100 + length tables → Keeps (redated c (with_table c.schemas d) at) (tables ++ new_table d ∷ [])
-keeps-new c at tables d k lt id = record {
-  schemas = map-append (λ (x : Table). x.descriptors) tables (new_table d ∷ []) ∙ ap (λ (xs : List (List Schema)). xs ++ (d ∷ []) ∷ []) k.schemas;
-  rows = rows-new (λ h. KeepsAll c.store.tables.entries h) tables (new_table d) refl refl k.rows;
-  events = sum_by_push (λ (x : Table). length x.facts) tables (new_table d) ∙ (let zero : accepted tables + 0 ≡ accepted tables = omega arith in zero ∙ k.events);
-  orderly = λ i table got. elim (got-push tables (new_table d) i table got) [
-    | inl there ↦ later c.clock at (100 + i) table (le-from_lt c.clock at lt) (k.orderly i table there)
-    | inr last ↦ subst (λ (n : ℕ). IsOrderly at (100 + n) table) (sym last.0) (subst (IsOrderly at (100 + length tables)) last.1 first)
+pub keeps-push : (old new : ClusterState) (tables : List Table) (t : Table) → Keeps old tables → new.schemas.tables ≡ old.schemas.tables ++ t.descriptors ∷ [] → Stored new.store (tables ++ t ∷ []) → new.events ≡ old.events + length t.facts
+    → time_le old.clock new.clock ≡ true → IsOrderly new.clock (100 + length tables) t → Keeps new (tables ++ t ∷ [])
+keeps-push old new tables t k schemas rows events le orderly = record {
+  schemas = map-append (λ (x : Table). x.descriptors) tables (t ∷ []) ∙ (ap (λ (xs : List (List Schema)). xs ++ t.descriptors ∷ []) k.schemas ∙ sym schemas);
+  rows = rows;
+  events = sum_by_push (λ (x : Table). length x.facts) tables t ∙ (ap (λ n. n + length t.facts) k.events ∙ sym events);
+  orderly = λ i table got. elim (got-push tables t i table got) [
+    | inl there ↦ later old.clock new.clock (100 + i) table le (k.orderly i table there)
+    | inr last ↦ subst (λ (n : ℕ). IsOrderly new.clock (100 + n) table) (sym last.0) (subst (IsOrderly new.clock (100 + length tables)) last.1 orderly)
   ];
 }
+
+pub keeps-new : (c : ClusterState) (at : Time) (tables : List Table) (d : Schema) → Keeps c tables → time_lt c.clock at ≡ true → d.id ≡ 100 + length tables → d.modified ≡ at → Keeps (redated c (with_table c.schemas d) at) (tables ++ new_table d ∷ [])
+keeps-new c at tables d k lt id on =
+    keeps-push c (redated c (with_table c.schemas d) at) tables (new_table d) k refl (rows-new (λ h. KeepsAll c.store.tables.entries h) tables (new_table d) refl refl k.rows) (omega arith) (le-from_lt c.clock at lt) first
   where
     own : (x : Schema) → Has x (d ∷ []) → IsOwn (100 + length tables) (table_kinds (new_table d)) x
     own x (inl is) = subst (IsOwn (100 + length tables) (key_kinds d)) (sym is) (record { id_is = id; kinds_are = refl })
     own x (inr none) = absurd none
 
+    now : (x : Schema) → Has x (d ∷ []) → time_le x.modified at ≡ true
+    now x (inl is) = subst (λ (y : Schema). time_le y.modified at ≡ true) (sym is) (subst (λ (y : Time). time_le y at ≡ true) (sym on) (le-refl at))
+    now x (inr none) = absurd none
+
     first : IsOrderly at (100 + length tables) (new_table d)
-    first = record { id_is = id; schemas = own; facts = λ f none. absurd none; threshold = grind (arith, nat_tests) }
+    first = record {
+      id_is = id;
+      schemas = own;
+      facts = λ f none. absurd none;
+      threshold = zero-least at;
+      sized = λ f none. absurd none;
+      dated = now;
+      ascend = subst (λ (x : Time). ascend_after zero_time (record d { modified = x } ∷ []) ≡ true) (sym on) (and-true (time_lt zero_time at) (lt-weaker zero_time c.clock at (zero-least c.clock) lt));
+      begun = λ none. cc none;
+    }
 
 -- ---- nothing yet
 
@@ -229,9 +288,9 @@ by_id-none none f = fun_ext (λ id. by id (nat_lt id 100) refl)
     by id true low = rw low refl
     by id false high = rw high refl
 
-pub stands-empty : (name : List ℕ) (events limit : ℕ) (clock : Time) (schemas : Schemas) (store : MvccMap) → schemas ≡ no_schemas limit → KeepsAll store.tables.entries no_facts
-    → StandsFor (record { name = name; most_events = events; clock = clock; schemas = schemas; store = store; events = 0; steps = 0; changes = 0; ended = false }) (empty_machine name clock (record { events = events; tables = limit }))
-stands-empty name events limit clock schemas store is keeps = record {
+pub stands-empty : (name cluster : List ℕ) (events limit : ℕ) (clock : Time) (schemas : Schemas) (store : MvccMap) → schemas ≡ no_schemas limit → KeepsAll store.tables.entries no_facts
+    → StandsFor (record { name = name; most_events = events; clock = clock; schemas = schemas; store = store; book = no_layers cluster; jobs = []; events = 0; steps = 0; changes = 0; ended = false }) (empty_machine name clock (record { events = events; tables = limit }))
+stands-empty name cluster events limit clock schemas store is keeps = record {
   tables = [];
   keeps = record {
     schemas = ap (λ (s : Schemas). s.tables) (sym is);
@@ -242,5 +301,6 @@ stands-empty name events limit clock schemas store is keeps = record {
     events = refl;
     orderly = λ i table got. cc got;
   };
-  machine_is = ap (λ (s : Schemas). record { name = name; limits = record { events = events; tables = s.limit }; clock = clock; history = record { databases = s.databases; tables = [] } }) (sym is);
+  machine_is = ap (λ (s : Schemas). record { name = name; limits = record { events = events; tables = s.limit }; clock = clock; history = record { databases = s.databases; tables = [] }; layers = []; jobs = [] }) (sym is);
+  backups = record { backups = λ place r got. cc got; layers = λ p none. absurd none };
 }

@@ -48,3 +48,13 @@ find-has p (z ∷ zs) x e = elim (cases_Bool (p z)) [
   | inl t ↦ (let l : Some z ≡ Some x = rw t at e in let same : z ≡ x = cc l in inl (sym same))
   | inr f ↦ (let l : find p zs ≡ Some x = rw f at e in inr (find-has p zs x l))
 ]
+
+pub got-left : {X : Type 0} (xs ys : List X) (j : ℕ) (x : X) → slice_get xs j ≡ Some x → slice_get (xs ++ ys) j ≡ Some x
+got-left [] ys j x e = cc e
+got-left (z ∷ zs) ys zero x e = e
+got-left (z ∷ zs) ys (suc j) x e = got-left zs ys j x e
+
+pub got-either : {X : Type 0} (xs ys : List X) (j : ℕ) (x : X) → slice_get (xs ++ ys) j ≡ Some x → (slice_get xs j ≡ Some x) ⊎ Has x ys
+got-either [] ys j x e = inr (got-has ys j x e)
+got-either (z ∷ zs) ys zero x e = inl e
+got-either (z ∷ zs) ys (suc j) x e = got-either zs ys j x e

@@ -1,6 +1,7 @@
 -- No command changes what was true up to the clock.
-use Rattle.std.proofs.Common.{◌≡◌, ◌≢◌, inl, inr, ⊎_elim, ℕ, Bool, true, false, not, List, [], ◌∷◌, ◌++◌, map, length, eqb, refl, sym, ap, subst, ◌∙◌, arith}
+use Rattle.std.proofs.Common.{◌≡◌, ◌≢◌, inl, inr, ⊎_elim, ℕ, Bool, true, false, not, List, [], ◌∷◌, ◌++◌, map, eqb, refl, sym, ap, subst, ◌∙◌, arith, append_assoc}
 use Rattle.std.specs.Prelude.{Option, Some, None, option_map, option_and_then, unwrap_or, slice_get, slice_set}
+use Rattle.std.specs.List.{find}
 use Rattle.std.proofs.lemmas.Bool.{cases_Bool}
 use Rattle.std.proofs.lemmas.Bool.Decides.{nat_tests}
 use Rattle.std.proofs.lemmas.List.{append-nil}
@@ -9,35 +10,47 @@ use Rattle.row_codec.specs.declared.rows.Kind.{Kind}
 use Rattle.row_codec.specs.declared.rows.Datum.{Datum}
 use Rattle.table_descriptors.specs.declared.changes.Change.{Change}
 use Rattle.table_descriptors.specs.declared.changes.Change.TheVariants.{Add, Remove, RenameColumn as Renamed, Rename, Become}
-use Rattle.table_descriptors.specs.declared.columns.State.TheVariants.{Dropped}
+use Rattle.table_descriptors.specs.declared.columns.State.TheVariants.{Dropped, Public}
 use Rattle.table_descriptors.specs.Descriptors.{Schema, new_schema, changed_schema}
+use Rattle.table_descriptors.specs.Restoring.{restored_schema}
+use Rattle.table_descriptors.specs.declared.scopes.Scope.{Scope}
+use Rattle.table_descriptors.specs.declared.scopes.Scope.TheVariants.{Database, Tables}
 use Rattle.fact_model.specs.Facts.{Del, DelRange, Has, date}
-use Rattle.fact_model.proofs.TimeLaws.{le-refl, le-from_lt}
+use Rattle.fact_model.proofs.Members.{has-append_cases, map-has}
+use Rattle.fact_model.proofs.TimeLaws.{le-refl, le-trans, le-from_lt, lt-trans, lt-weaker}
 use Rattle.history_model.specs.Rows.{Key, RowFact, put_of}
-use Rattle.history_model.specs.Histories.{Table, Found, found_at, in_force, named, place_named, schemas_of}
-use Rattle.schema_catalog.specs.Catalogs.{database_fault, table_fault, change_fault, drop_fault, next_id, first_schema, dropped}
+use Rattle.history_model.specs.Histories.{History, Table, Found, found_at, in_force, named, place_named, schemas_of}
+use Rattle.history_model.specs.Layers.{Layer}
+use Rattle.schema_catalog.specs.Catalogs.{missing_fault, offline_fault, first_schema, dropped}
 use Rattle.table_rows.specs.declared.faults.RowsFault.{RowsFault}
 use Rattle.table_rows.specs.Checks.{range_fault}
 use Rattle.reply_texts.specs.declared.refusals.Refusal.{Refusal}
-use Rattle.reply_texts.specs.declared.refusals.Refusal.TheVariants.{TickBack}
+use Rattle.reply_texts.specs.declared.refusals.Refusal.TheVariants.{TickBack, NoSuchBackup, NoSuchLayer, NothingToRestore}
 use Rattle.reply_texts.specs.declared.answers.Answer.{Answer}
-use Rattle.reply_texts.specs.declared.answers.Answer.TheVariants.{Plain, ClockSet, TableMade, RangeDeleted, ThresholdRaised, RowsShown}
-use Rattle.command_lang.specs.declared.command.Command.{Command}
-use Rattle.command_lang.specs.declared.command.Command.TheVariants.{Cluster, Tick, CreateDatabase, CreateTable, AddColumn, DropColumn, RenameColumn, RenameTable, DropTable, Upsert, Delete, DeleteRange, Select, Gc}
-use Rattle.machine_model.specs.Machine.{World, Machine, Stepped, answered, catalog_of, first_refusal, refusal_if, unless_refused, judged, with_time, drawing, with_found, with_table, offline_refusal}
-use Rattle.machine_model.specs.Refusals.{catalog_refusal, rows_refusal}
-use Rattle.machine_model.specs.Tables.{tick, create_database, create_table, new_table, with_new_table, alter, drop_table, described, with_descriptor, redescribed}
-use Rattle.machine_model.specs.TableRows.{adding, room_refusal, upsert, delete, delete_range, select, select_at, rows_at, future_refusal, collected_refusal, collect, raised, with_threshold, extended, with_facts}
+use Rattle.reply_texts.specs.declared.answers.Answer.TheVariants.{ClockSet, RangeDeleted}
+use Rattle.command_lang.specs.declared.command.Command.TheVariants.{Cluster, Tick, CreateDatabase, CreateTable, AddColumn, DropColumn, RenameColumn, RenameTable, DropTable, Upsert, Delete, DeleteRange, Select, Gc, BackupDatabase, BackupTables, RestoreDatabase, Forget, ShowBackups}
+use Rattle.machine_model.specs.Machine.{Backup, Restore, Machine, Stepped, answered, catalog_of, first_refusal, refusal_if, unless_refused, with_time, drawing, with_found, with_table}
+use Rattle.machine_model.specs.Tables.{tick, create_database, create_table, new_table, with_new_table, alter, drop_table, described, with_descriptor}
+use Rattle.machine_model.specs.TableRows.{adding, upsert, delete, delete_range, select, select_at, collect, raised, with_threshold, extended, with_facts}
+use Rattle.machine_model.specs.Backups.{ending, full_layer, full_backup, absent_refusal, backup_database, ids_named, backup_tables, show_backups, with_found as finding, source_among, own_subdirectories, layers_in, with_source, is_between_times, forgetting, forget}
+use Rattle.machine_model.specs.Restores.{links_of, time_of, layers_at, with_cover, last_of, chosen_tables, restored_table, restore_chosen, restore_chain, restore_database}
 use Rattle.machine_model.specs.Step.{step}
+use Rattle.machine_model.specs.Refusals.{catalog_refusal}
+use Rattle.chain_resolver.specs.Best.{Chain, Cover, Uncovered, cover}
+use Rattle.id_remap.specs.declared.targets.Target.{Target}
+use Rattle.id_remap.specs.declared.targets.Target.TheVariants as target
+use Rattle.id_remap.specs.Remapping.{new_ids, remapped_schema}
+use Rattle.script_grammar.specs.declared.backups.Src.{Src}
 use Rattle.layer_objects.specs.Past.{IsLonger, KeepsPast}
 use Rattle.machine_model.specs.Past.{IsLater, StepsAreLater}
 use Rattle.cluster_core.proofs.Kept.{next-later}
-use Rattle.cluster_core.proofs.Lists.{got-set, got-set_other, got-push, got-front}
+use Rattle.cluster_core.proofs.Lists.{got-set, got-set_other, got-left, got-either}
 
 -- ---- tables
 
-longer-same : (t : Time) (table : Table) → IsLonger t table table
-longer-same t table = record {
+-- whatever the threshold
+pub longer-same : (t : Time) (table : Table) (threshold : Time) → IsLonger t table (record table { threshold = threshold })
+longer-same t table threshold = record {
   id_is = refl;
   facts = [];
   facts_are = sym (append-nil table.facts);
@@ -49,7 +62,7 @@ longer-same t table = record {
 
 past-same : (t : Time) (tables : List Table) → KeepsPast t tables tables
 past-same t tables = record {
-  kept = λ i table got. (table, got, longer-same t table);
+  kept = λ i table got. (table, got, longer-same t table table.threshold);
   added = λ i table none got. absurd (let no : None ≡ Some table = sym none ∙ got in cc);
 }
 
@@ -58,7 +71,7 @@ past-set : (t : Time) (tables : List Table) (i : ℕ) (old new : Table) → slic
 past-set t tables i old new got longer = record {
   kept = λ j table there. elim (cases_Bool (eqb j i)) [
     | inl is ↦ (let same : j ≡ i = grind (arith, nat_tests) in (new, rw same (got-set tables i old new got), subst (λ (x : Table). IsLonger t x new) (let e : Some old ≡ Some table = sym got ∙ subst (λ (k : ℕ). slice_get tables k ≡ Some table) same there in cc) longer))
-    | inr is ↦ (let other : j ≢ i = grind (arith, nat_tests) in (table, got-set_other tables i j new other ∙ there, longer-same t table))
+    | inr is ↦ (let other : j ≢ i = grind (arith, nat_tests) in (table, got-set_other tables i j new other ∙ there, longer-same t table table.threshold))
   ];
   added = λ j table none there. elim (cases_Bool (eqb j i)) [
     | inl is ↦ (let same : j ≡ i = grind (arith, nat_tests) in absurd (let no : None ≡ Some old = sym none ∙ subst (λ (k : ℕ). slice_get tables k ≡ Some old) (sym same) got in cc))
@@ -66,27 +79,76 @@ past-set t tables i old new got longer = record {
   ];
 }
 
--- one table more, which begins after t
-past-push : (t : Time) (tables : List Table) (new : Table) → ((d : Schema) → Has d new.descriptors → time_lt t d.modified ≡ true) → KeepsPast t tables (tables ++ new ∷ [])
-past-push t tables new begins = record {
-  kept = λ i table got. (table, got-front tables new i table got, longer-same t table);
+-- more tables, which begin after t
+pub past-more : (t : Time) (tables others : List Table) → ((table : Table) → Has table others → (d : Schema) → Has d table.descriptors → time_lt t d.modified ≡ true) → KeepsPast t tables (tables ++ others)
+past-more t tables others begin = record {
+  kept = λ i table got. (table, got-left tables others i table got, longer-same t table table.threshold);
   added = λ i table none got. ⊎_elim
       (λ there. absurd (let no : None ≡ Some table = sym none ∙ there in cc))
-      (λ here. subst (λ (x : Table). (d : Schema) → Has d x.descriptors → time_lt t d.modified ≡ true) here.1 begins)
-      (got-push tables new i table got);
+      (λ here. begin table here)
+      (got-either tables others i table got);
+}
+
+-- ---- twice later
+
+more-then : {X : Type 0} (a b c more further : List X) → b ≡ a ++ more → c ≡ b ++ further → c ≡ a ++ (more ++ further)
+more-then a b c more further first second = second ∙ (ap (λ xs. xs ++ further) first ∙ append_assoc a more further)
+
+after-then : {X : Type 0} (on : X → Time) (s t : Time) (more further : List X) → time_le s t ≡ true → ((x : X) → Has x more → time_lt s (on x) ≡ true) → ((x : X) → Has x further → time_lt t (on x) ≡ true)
+    → (x : X) → Has x (more ++ further) → time_lt s (on x) ≡ true
+after-then on s t more further le first second x has = ⊎_elim (first x) (λ is. lt-weaker s t (on x) le (second x is)) (has-append_cases x more further has)
+
+longer-then : (s t : Time) (a b c : Table) → time_le s t ≡ true → IsLonger s a b → IsLonger t b c → IsLonger s a c
+longer-then s t a b c le p q = record {
+  id_is = q.id_is ∙ p.id_is;
+  facts = p.facts ++ q.facts;
+  facts_are = more-then a.facts b.facts c.facts p.facts q.facts p.facts_are q.facts_are;
+  facts_after = after-then date s t p.facts q.facts le p.facts_after q.facts_after;
+  schemas = p.schemas ++ q.schemas;
+  schemas_are = more-then a.descriptors b.descriptors c.descriptors p.schemas q.schemas p.schemas_are q.schemas_are;
+  schemas_after = after-then (λ (d : Schema). d.modified) s t p.schemas q.schemas le p.schemas_after q.schemas_after;
+}
+
+past-then : (s t : Time) (a b c : List Table) → time_le s t ≡ true → KeepsPast s a b → KeepsPast t b c → KeepsPast s a c
+past-then s t a b c le p q = record {
+  kept = λ i table got. let m = p.kept i table got in let n = q.kept i m.0 m.1 in (n.0, n.1, longer-then s t table m.0 n.0 le m.2 n.2);
+  added = λ i table none got. by i table none got (slice_get b i) refl;
+}
+  where
+    by : (i : ℕ) (table : Table) → slice_get a i ≡ None → slice_get c i ≡ Some table → (o : Option Table) → slice_get b i ≡ o → (d : Schema) → Has d table.descriptors → time_lt s d.modified ≡ true
+    by i table none got None fresh d has = lt-weaker s t d.modified le (q.added i table fresh got d has)
+    by i table none got (Some mid) there d has =
+        let n = q.kept i mid there in
+        let same : n.0 ≡ table = let e : Some n.0 ≡ Some table = sym n.1 ∙ got in cc in
+        let ds : table.descriptors ≡ mid.descriptors ++ n.2.schemas = ap (λ (x : Table). x.descriptors) (sym same) ∙ n.2.schemas_are in
+        after-then (λ (x : Schema). x.modified) s t mid.descriptors n.2.schemas le (p.added i mid none there) n.2.schemas_after d (subst (λ (xs : List Schema). Has d xs) ds has)
+
+pub later-then : (a b c : Machine) → IsLater a b → IsLater b c → IsLater a c
+later-then a b c p q = record {
+  name = q.name ∙ p.name;
+  limits = q.limits ∙ p.limits;
+  clock = le-trans a.clock b.clock c.clock p.clock q.clock;
+  tables = past-then a.clock b.clock a.history.tables b.history.tables c.history.tables p.clock p.tables q.tables;
+  more = p.more ++ q.more;
+  jobs = more-then a.jobs b.jobs c.jobs p.more q.more p.jobs q.jobs;
 }
 
 -- ---- tests, drawn times, tables by name
 
-later-same : (m : Machine) → IsLater m m
-later-same m = record { name = refl; limits = refl; clock = le-refl m.clock; tables = past-same m.clock m.history.tables }
+-- no job more
+later-as : (m : Machine) (clock : Time) (history : History) (layers : List Layer) → time_le m.clock clock ≡ true → KeepsPast m.clock m.history.tables history.tables → IsLater m (record m { clock = clock; history = history; layers = layers })
+later-as m clock history layers le keeps = record { name = refl; limits = refl; clock = le; tables = keeps; more = []; jobs = sym (append-nil m.jobs) }
+
+-- other layers
+later-layers : (m : Machine) (layers : List Layer) → IsLater m (record m { layers = layers })
+later-layers m layers = later-as m m.clock m.history layers (le-refl m.clock) (past-same m.clock m.history.tables)
+
+pub later-same : (m : Machine) → IsLater m m
+later-same m = later-layers m m.layers
 
 unless-later : (m : Machine) (r : Option Refusal) (change : Stepped) → IsLater m change.machine → IsLater m (unless_refused m r change).machine
 unless-later m None change later = later
 unless-later m (Some r) change later = later-same m
-
-judged-later : (m : Machine) (tests : List (Option Refusal)) (change : Stepped) → IsLater m change.machine → IsLater m (judged m tests change).machine
-judged-later m tests change later = unless-later m (first_refusal tests) change later
 
 timed-later : (m : Machine) (o : Option Time) (change : Time → Stepped) → ((t : Time) → o ≡ Some t → IsLater m (change t).machine) → IsLater m (with_time m o change).machine
 timed-later m None change later = later-same m
@@ -123,19 +185,18 @@ unfolding tick
 tick-later m wall = by (time_lt m.clock (time wall 0)) refl
   where
     by : (b : Bool) → time_lt m.clock (time wall 0) ≡ b → IsLater m (unless_refused m (first_refusal (refusal_if (not b) (TickBack m.clock) ∷ [])) (answered (record m { clock = time wall 0 }) (ClockSet (time wall 0)))).machine
-    by true is = record { name = refl; limits = refl; clock = le-from_lt m.clock (time wall 0) is; tables = past-same m.clock m.history.tables }
+    by true is = later-as m (time wall 0) m.history m.layers (le-from_lt m.clock (time wall 0) is) (past-same m.clock m.history.tables)
     by false is = later-same m
 
 database-later : (m : Machine) (name : List ℕ) → IsLater m (create_database m name).machine
 unfolding create_database
-database-later m name = judged-later m (catalog_refusal (database_fault (catalog_of m) name) ∷ []) (answered (record m { history = record m.history { databases = m.history.databases ++ name ∷ [] } }) Plain)
-    (record { name = refl; limits = refl; clock = le-refl m.clock; tables = past-same m.clock m.history.tables })
+database-later m name = unless-later m _ _ (later-as m m.clock (record m.history { databases = m.history.databases ++ name ∷ [] }) m.layers (le-refl m.clock) (past-same m.clock m.history.tables))
 
 new-modified : (id : ℕ) (database name : List ℕ) (columns : List (List ℕ × Kind)) (key : List (List ℕ × Bool)) (references : List ℕ) (t : Time) → (new_schema id database name columns key references t).modified ≡ t
 unfolding new_schema
 new-modified id database name columns key references t = refl
 
-changed-modified : (d : Schema) (change : Change) (t : Time) → (changed_schema d change t).modified ≡ t
+pub changed-modified : (d : Schema) (change : Change) (t : Time) → (changed_schema d change t).modified ≡ t
 unfolding changed_schema
 changed-modified d change t = refl
 
@@ -150,72 +211,56 @@ unfolding create_table
 create-later m name columns key references = drawing-later m _ (λ t after.
     let d = first_schema (catalog_of m) t name columns key references in
     let dated : d.modified ≡ t = new-modified _ _ _ columns key _ t in
-    judged-later m (catalog_refusal (table_fault (catalog_of m) t name columns key references) ∷ []) (answered (with_new_table m d) (TableMade (next_id (catalog_of m)) t)) (record {
-      name = refl;
-      limits = refl;
-      clock = subst (λ (u : Time). time_le m.clock u ≡ true) (sym dated) (le-from_lt m.clock t after);
-      tables = past-push m.clock m.history.tables (new_table d) (one-dated m.clock t d dated after);
-    }))
+    unless-later m _ _ (later-as m d.modified (with_new_table m d).history m.layers (subst (λ (u : Time). time_le m.clock u ≡ true) (sym dated) (le-from_lt m.clock t after))
+    (past-more m.clock m.history.tables (new_table d ∷ []) (λ table has. ⊎_elim
+    (λ is. subst (λ (x : Table). (e : Schema) → Has e x.descriptors → time_lt m.clock e.modified ≡ true) (sym is) (one-dated m.clock t d dated after))
+    (λ no. absurd no) has))))
 
 -- a descriptor that is dated after the clock
 described-later : (m : Machine) (f : Found) (d : Schema) (t : Time) → slice_get m.history.tables f.place ≡ Some f.table → d.modified ≡ t → time_lt m.clock t ≡ true → IsLater m (with_descriptor m f d)
-described-later m f d t got dated after = record {
-  name = refl;
-  limits = refl;
-  clock = subst (λ (u : Time). time_le m.clock u ≡ true) (sym dated) (le-from_lt m.clock t after);
-  tables = past-set m.clock m.history.tables f.place f.table (described f.table d) got (record {
-    id_is = refl;
-    facts = [];
-    facts_are = sym (append-nil f.table.facts);
-    facts_after = λ x no. absurd no;
-    schemas = d ∷ [];
-    schemas_are = refl;
-    schemas_after = one-dated m.clock t d dated after;
-  });
-}
+described-later m f d t got dated after = later-as m d.modified (with_descriptor m f d).history m.layers (subst (λ (u : Time). time_le m.clock u ≡ true) (sym dated) (le-from_lt m.clock t after))
+    (past-set m.clock m.history.tables f.place f.table (described f.table d) got (record {
+      id_is = refl;
+      facts = [];
+      facts_are = sym (append-nil f.table.facts);
+      facts_after = λ x no. absurd no;
+      schemas = d ∷ [];
+      schemas_are = refl;
+      schemas_after = one-dated m.clock t d dated after;
+    }))
 
 alter-later : (m : Machine) (name : List ℕ × List ℕ) (change : Change) → IsLater m (alter m name change).machine
 unfolding alter
 alter-later m name change = drawing-later m _ (λ t after. table-later m name t _ (λ f got.
-    judged-later m (offline_refusal name f.schema ∷ catalog_refusal (change_fault (catalog_of m) t f.schema change) ∷ []) (redescribed m f (changed_schema f.schema change t))
-    (described-later m f (changed_schema f.schema change t) t got (changed-modified f.schema change t) after)))
+    unless-later m _ _ (described-later m f (changed_schema f.schema change t) t got (changed-modified f.schema change t) after)))
 
 drop-later : (m : Machine) (name : List ℕ × List ℕ) → IsLater m (drop_table m name).machine
 unfolding drop_table
 drop-later m name = drawing-later m _ (λ t after. table-later m name t _ (λ f got.
-    judged-later m (catalog_refusal (drop_fault (catalog_of m) t (f.table.id ∷ [])) ∷ []) (redescribed m f (dropped f.schema t))
-    (described-later m f (dropped f.schema t) t got (changed-modified f.schema (Become Dropped) t) after)))
+    unless-later m _ _ (described-later m f (dropped f.schema t) t got (changed-modified f.schema (Become Dropped) t) after)))
 
 -- facts that are dated by the drawn time
 adding-later : (m : Machine) (name : List ℕ × List ℕ) (fault : Schema → Option RowsFault) (facts : Schema → Time → List RowFact) (answer : Time → Answer)
     → ((d : Schema) (t : Time) (f : RowFact) → Has f (facts d t) → date f ≡ t) → IsLater m (adding m name fault facts answer).machine
-adding-later m name fault facts answer dated = drawing-later m _ (λ t after. table-later m name t _ (λ f got. judged-later m (offline_refusal name f.schema ∷ rows_refusal (fault f.schema) ∷ room_refusal m (length (facts f.schema t)) ∷ []) (answered (with_facts m f (facts f.schema t) t) (answer t)) (record {
-  name = refl;
-  limits = refl;
-  clock = le-from_lt m.clock t after;
-  tables = past-set m.clock m.history.tables f.place f.table (extended f.table (facts f.schema t)) got (record {
-    id_is = refl;
-    facts = facts f.schema t;
-    facts_are = refl;
-    facts_after = λ x has. subst (λ (u : Time). time_lt m.clock u ≡ true) (sym (dated f.schema t x has)) after;
-    schemas = [];
-    schemas_are = sym (append-nil f.table.descriptors);
-    schemas_after = λ d no. absurd no;
-  });
-})))
-
--- each of the facts that rows and keys become has the time
-mapped-dated : {X : Type 0} (t : Time) (make : X → RowFact) → ((x : X) → date (make x) ≡ t) → (xs : List X) (f : RowFact) → Has f (map make xs) → date f ≡ t
-mapped-dated t make dated [] f has = absurd has
-mapped-dated t make dated (x ∷ xs) f has = ⊎_elim (λ is. subst (λ (y : RowFact). date y ≡ t) (sym is) (dated x)) (mapped-dated t make dated xs f) has
+adding-later m name fault facts answer dated = drawing-later m _ (λ t after. table-later m name t _ (λ f got. unless-later m _ _ (later-as m t (with_facts m f (facts f.schema t) t).history m.layers (le-from_lt m.clock t after)
+    (past-set m.clock m.history.tables f.place f.table (extended f.table (facts f.schema t)) got
+    (record {
+      id_is = refl;
+      facts = facts f.schema t;
+      facts_are = refl;
+      facts_after = λ x has. subst (λ (u : Time). time_lt m.clock u ≡ true) (sym (dated f.schema t x has)) after;
+      schemas = [];
+      schemas_are = sym (append-nil f.table.descriptors);
+      schemas_after = λ d no. absurd no;
+    })))))
 
 upsert-later : (m : Machine) (name : List ℕ × List ℕ) (rows : List (List Datum)) → IsLater m (upsert m name rows).machine
 unfolding upsert
-upsert-later m name rows = adding-later m name _ _ _ (λ d t f has. mapped-dated t (put_of d t) (λ row. refl) rows f has)
+upsert-later m name rows = adding-later m name _ _ _ (λ d t f has. ap date (map-has (put_of d t) f rows has).2)
 
 delete-later : (m : Machine) (name : List ℕ × List ℕ) (keys : List Key) → IsLater m (delete m name keys).machine
 unfolding delete
-delete-later m name keys = adding-later m name _ _ _ (λ d t f has. mapped-dated t (λ k. Del k t) (λ k. refl) keys f has)
+delete-later m name keys = adding-later m name _ _ _ (λ d t f has. ap date (map-has (λ k. Del k t) f keys has).2)
 
 range-later : (m : Machine) (name : List ℕ × List ℕ) (lo hi : Key) → IsLater m (delete_range m name lo hi).machine
 unfolding delete_range
@@ -226,12 +271,8 @@ range-later m name lo hi = adding-later m name (λ d. range_fault d lo hi) (λ d
 
 -- ---- SELECT and GC
 
-abbrev shown : Machine → List ℕ × List ℕ → Time → Found → Stepped
-shown m name t f = judged m (offline_refusal name f.schema ∷ collected_refusal f.table t ∷ []) (answered m (RowsShown (rows_at f t)))
-
 select_at-later : (m : Machine) (name : List ℕ × List ℕ) (t : Time) → IsLater m (select_at m name t).machine
-select_at-later m name t = judged-later m (future_refusal m t ∷ []) (with_table m name t (shown m name t)) (table-later m name t (shown m name t) (λ f got.
-    judged-later m (offline_refusal name f.schema ∷ collected_refusal f.table t ∷ []) (answered m (RowsShown (rows_at f t))) (later-same m)))
+select_at-later m name t = unless-later m _ _ (table-later m name t _ (λ f got. unless-later m _ _ (later-same m)))
 
 select-later : (m : Machine) (name : List ℕ × List ℕ) (at : Option Time) → IsLater m (select m name at).machine
 unfolding select
@@ -241,20 +282,81 @@ collect-later : (m : Machine) (name : List ℕ × List ℕ) (g : Time) → IsLat
 unfolding collect
 collect-later m name g = table-later m name m.clock _ (λ f got.
     let t = raised f.table.threshold g in
-    judged-later m (offline_refusal name f.schema ∷ future_refusal m g ∷ []) (answered (with_threshold m f t) (ThresholdRaised t)) (record {
+    unless-later m _ _ (later-as m m.clock (with_threshold m f t).history m.layers (le-refl m.clock)
+    (past-set m.clock m.history.tables f.place f.table (record f.table { threshold = t }) got (longer-same m.clock f.table t))))
+
+-- ---- BACKUP, SHOW BACKUPS and FORGET
+
+full-later : (m : Machine) (tests : List (Option Refusal)) (collection : List ℕ) (scope : Scope) (end clock : Time) → time_le m.clock clock ≡ true → IsLater m (full_backup m tests collection scope end clock).machine
+full-later m tests collection scope end clock le = let r = full_layer m collection scope end in
+    unless-later m _ _ (record { name = refl; limits = refl; clock = le; tables = past-same m.clock m.history.tables; more = Backup r ∷ []; jobs = refl })
+
+ending-later : (m : Machine) (at : Option Time) (change : Time → Time → Stepped) → ((end clock : Time) → time_le m.clock clock ≡ true → IsLater m (change end clock).machine) → IsLater m (ending m at change).machine
+ending-later m None change later = drawing-later m (λ t. change t t) (λ t after. later t t (le-from_lt m.clock t after))
+ending-later m (Some t) change later = unless-later m _ _ (later t m.clock (le-refl m.clock))
+
+backup-later : (m : Machine) (database collection : List ℕ) (at : Option Time) → IsLater m (backup_database m database collection at).machine
+unfolding backup_database
+backup-later m database collection at = ending-later m at _ (full-later m (absent_refusal (catalog_of m) database ∷ []) collection (Database database))
+
+tables-later : (m : Machine) (names : List (List ℕ × List ℕ)) (collection : List ℕ) (at : Option Time) → IsLater m (backup_tables m names collection at).machine
+unfolding backup_tables
+tables-later m names collection at = ending-later m at _ (λ end clock le. full-later m (catalog_refusal (missing_fault (catalog_of m) end names) ∷ catalog_refusal (offline_fault (catalog_of m) end names) ∷ [])
+    collection (Tables (ids_named (schemas_of m.history.tables) names end)) end clock le)
+
+pub finding-later : (m : Machine) (r : Refusal) {X : Type 0} (o : Option X) (change : X → Stepped) → ((x : X) → IsLater m (change x).machine) → IsLater m (finding m r o change).machine
+finding-later m r None change later = later-same m
+finding-later m r (Some x) change later = later x
+
+source-later : (m : Machine) (source : Src) (collection : List ℕ) (change : List ℕ × Time → Stepped) → ((s : List ℕ × Time) → IsLater m (change s).machine) → IsLater m (with_source m source collection change).machine
+source-later m source collection change later = finding-later m NoSuchBackup (source_among source (own_subdirectories m collection)) change later
+
+show-later : (m : Machine) (collection : List ℕ) → IsLater m (show_backups m collection).machine
+unfolding show_backups
+show-later m collection = later-same m
+
+forget-later : (m : Machine) (source : Src) (collection : List ℕ) (start end : Time) → IsLater m (forget m source collection start end).machine
+unfolding forget
+forget-later m source collection start end = source-later m source collection _ (λ s. finding-later m NoSuchLayer (find (is_between_times start end) (layers_in m collection s)) _ (λ r. later-layers m (forgetting m r).layers))
+
+-- ---- RESTORE
+
+restored-modified : (d : Schema) (id : ℕ) (database : List ℕ) (references : List ℕ) (t : Time) → (restored_schema d id database references t).modified ≡ t
+unfolding restored_schema
+restored-modified d id database references t = refl
+
+-- a restored table begins after a time before both of its own
+restored-after : (s : Time) (tables : List Table) (ids : List (ℕ × ℕ)) (to : Target) (t at published : Time) (x : Schema) → time_lt s at ≡ true → time_lt s published ≡ true
+    → (d : Schema) → Has d (restored_table tables ids to t at published x).descriptors → time_lt s d.modified ≡ true
+restored-after s tables ids to t at published x first second d has = let e = remapped_schema ids to at x in ⊎_elim
+    (λ is. one-dated s at e (restored-modified x _ _ _ at) first d (inl is))
+    (λ more. one-dated s published (changed_schema e (Become Public) published) (changed-modified e (Become Public) published) second d more) has
+
+pub chosen-later : (m : Machine) (database : List ℕ) (t at published : Time) (rs : List Layer) (chosen : List Schema) → time_lt m.clock at ≡ true → time_lt at published ≡ true → IsLater m (restore_chosen m database t at published rs chosen).machine
+chosen-later m database t at published rs chosen first then =
+    let second : time_lt m.clock published ≡ true = lt-trans m.clock at published first then in
+    let make = restored_table m.history.tables (new_ids (catalog_of m) chosen) (target.Database database) t at published in
+    unless-later m _ _ (record {
       name = refl;
       limits = refl;
-      clock = le-refl m.clock;
-      tables = past-set m.clock m.history.tables f.place f.table (record f.table { threshold = t }) got (record {
-        id_is = refl;
-        facts = [];
-        facts_are = sym (append-nil f.table.facts);
-        facts_after = λ x no. absurd no;
-        schemas = [];
-        schemas_are = sym (append-nil f.table.descriptors);
-        schemas_after = λ d no. absurd no;
-      });
-    }))
+      clock = le-from_lt m.clock published second;
+      tables = past-more m.clock m.history.tables (map make chosen) (λ table has. let p = map-has make table chosen has in
+          subst (λ (x : Table). (d : Schema) → Has d x.descriptors → time_lt m.clock d.modified ≡ true) (sym p.2) (restored-after m.clock m.history.tables (new_ids (catalog_of m) chosen) (target.Database database) t at published p.0 first second));
+      more = Restore ∷ [];
+      jobs = refl;
+    })
+
+cover-later : (m : Machine) (rs : List Layer) (c : Cover) (change : List Layer → Stepped) → ((xs : List Layer) → IsLater m (change xs).machine) → IsLater m (with_cover m rs c change).machine
+cover-later m rs (Chain places) change later = later (layers_at rs places)
+cover-later m rs (Uncovered fault) change later = later-same m
+
+restore-later : (m : Machine) (database : List ℕ) (source : Src) (collection : List ℕ) (at : Option Time) (new : Option (List ℕ)) → IsLater m (restore_database m database source collection at new).machine
+unfolding restore_database
+restore-later m database source collection at new = drawing-later m _ (λ made first. timed-later m (next made) _ (λ published is. source-later m source collection _ (λ s.
+    let rs = layers_in m collection s in
+    let t = time_of rs at in
+    cover-later m rs (cover (links_of rs) t) (restore_chain m database (unwrap_or new database) t made published) (λ xs.
+    finding-later m NothingToRestore (last_of xs) _ (λ r. chosen-later m (unwrap_or new database) t made published xs (chosen_tables m.history.tables database t r) first (next-later made published is))))))
 
 pub steps-later : StepsAreLater
 unfolding step
@@ -272,3 +374,8 @@ steps-later worlds m (Delete table keys) = delete-later m table keys
 steps-later worlds m (DeleteRange table lo hi) = range-later m table lo hi
 steps-later worlds m (Select table at) = select-later m table at
 steps-later worlds m (Gc table before) = collect-later m table before
+steps-later worlds m (BackupDatabase database collection at) = backup-later m database collection at
+steps-later worlds m (BackupTables tables collection at) = tables-later m tables collection at
+steps-later worlds m (RestoreDatabase database source collection at new) = restore-later m database source collection at new
+steps-later worlds m (Forget source collection start end) = forget-later m source collection start end
+steps-later worlds m (ShowBackups collection) = show-later m collection

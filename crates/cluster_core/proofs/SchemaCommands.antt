@@ -51,7 +51,7 @@ module _ (name : List ℕ × List ℕ) (columns : List (List ℕ × Kind)) (key 
       let count : length c.schemas.tables ≡ length tables = ap length (sym k.schemas) ∙ length-map tables (λ (x : Table). x.descriptors) in
       let new = redated c (with_table c.schemas d) t in
       rw is (does new _ (TableMade id t) _
-      (keeps-new c t tables d k (next-later c.clock t draw) (ap (λ (n : ℕ). 100 + n) count))
+      (keeps-new c t tables d k (next-later c.clock t draw) (ap (λ (n : ℕ). 100 + n) count) refl)
       (draws m _ t draw ∙ (passes m (catalog_refusal (table_fault (catalog_of m) t name columns key references)) [] _ (ap (λ (s : Schemas). catalog_refusal (table_fault s t name columns key references)) (catalog-is c tables k) ∙ ap catalog_refusal fine)
       ∙ (ap (λ (s : Schemas). answered (with_new_table m (first_schema s t name columns key references)) (TableMade (next_id s) t)) (catalog-is c tables k)
       ∙ ap (λ (i : ℕ). answered (with_new_table m d) (TableMade i t)) (sym id-is)))))
@@ -70,9 +70,9 @@ fine-change s t d change e = by (bad_change d change) refl
     by None is = refl
     by (Some which) is = let no : Some (CatalogFault.BadSchema which) ≡ None = rw is at e in cc no
 
-pub next_version : (d : Schema) (change : Change) (at : Time) (n : ℕ) → d.version ≤ n → (changed_schema d change at).version ≤ n + 1
+pub next_version : (d : Schema) (change : Change) (at : Time) (n m : ℕ) → d.version ≤ n → n + 1 ≤ m → (changed_schema d change at).version ≤ m
 unfolding changed_schema
-next_version d change at n bound = omega (arith, bound)
+next_version d change at n m bound less = omega (arith, bound, less)
 
 module _ (name : List ℕ × List ℕ) (change : Change) where
   pub alter-missing : (c : ClusterState) (t : Time) → next c.clock ≡ Some t → found_in c.schemas name t ≡ None → Refuses c (λ m. alter m name change) (NoSuchTable name)
@@ -115,7 +115,7 @@ module _ (name : List ℕ × List ℕ) (change : Change) where
       let same : w.table.id ≡ id = o.id_is ∙ sym w.id_is in
       let new = redated c (with_descriptor c.schemas (id - 100) e) t in
       rw (is, version-is) (does new _ (TableChanged id (d.version + 1) t) _
-      (rw place (keeps-described c t tables w.place w.table d e k w.got (next-later c.clock t draw) (in_force-has w.table.descriptors t d w.force) refl (kinds-kept d change t proper (fine-change c.schemas t d change fine))))
+      (rw place (keeps-described c t tables w.place w.table d e k w.got (next-later c.clock t draw) (in_force-has w.table.descriptors t d w.force) refl (kinds-kept d change t proper (fine-change c.schemas t d change fine)) refl))
       (reach c tables t id d draw k w ∙ (passes m (offline_refusal name d) _ _ public ∙ (passes m (catalog_refusal (change_fault c.schemas t d change)) [] _ (ap catalog_refusal fine)
       ∙ ap (λ (i : ℕ). answered (with_described m (found tables t id d w) e) (TableChanged i (d.version + 1) t)) same))))
 
@@ -155,6 +155,6 @@ module _ (name : List ℕ × List ℕ) where
       let same : w.table.id ≡ id = o.id_is ∙ sym w.id_is in
       let new = redated c (with_descriptor c.schemas (id - 100) e) t in
       rw is (does new _ (TableChanged id (d.version + 1) t) _
-      (rw place (keeps-described c t tables w.place w.table d e k w.got (next-later c.clock t draw) (in_force-has w.table.descriptors t d w.force) refl (kinds-kept d (Become Dropped) t proper refl)))
+      (rw place (keeps-described c t tables w.place w.table d e k w.got (next-later c.clock t draw) (in_force-has w.table.descriptors t d w.force) refl (kinds-kept d (Become Dropped) t proper refl) refl))
       (dropped-reach c tables t id d draw k w ∙ (passes m (catalog_refusal (drop_fault c.schemas t (id ∷ []))) [] _ (ap catalog_refusal fine)
       ∙ ap (λ (i : ℕ). answered (with_described m (record { place = w.place; table = w.table; schema = d }) e) (TableChanged i (d.version + 1) t)) same)))

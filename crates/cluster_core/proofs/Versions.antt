@@ -46,20 +46,24 @@ history-within n s id d within has = elim (cases_Bool (nat_lt id 100)) [
 pub version-within : (n : ℕ) (s : Schemas) (name : List ℕ × List ℕ) (t : Time) (id : ℕ) (d : Schema) → AreWithin n s.tables → found_in s name t ≡ Some (id, d) → d.version ≤ n
 version-within n s name t id d within e = history-within n s id d within (in_force-has (history_of s id) t d (found-force s name t id d e))
 
-pub changeable : (n : ℕ) (s : Schemas) (name : List ℕ × List ℕ) (t : Time) (id : ℕ) (d : Schema) → AreWithin n s.tables → n ≤ 67108864 → found_in s name t ≡ Some (id, d) → IsChangeable s t id
+pub changeable : (n : ℕ) (s : Schemas) (name : List ℕ × List ℕ) (t : Time) (id : ℕ) (d : Schema) → AreWithin n s.tables → n ≤ 67108866 → found_in s name t ≡ Some (id, d) → IsChangeable s t id
 changeable n s name t id d within small e = record {
   schema = d;
   found = found-force s name t id d e;
   version = (let bound = version-within n s name t id d within e in omega (arith, bound, small));
 }
 
-pub one-changeable : (n : ℕ) (s : Schemas) (name : List ℕ × List ℕ) (t : Time) (id : ℕ) (d : Schema) → AreWithin n s.tables → n ≤ 67108864 → found_in s name t ≡ Some (id, d) → AreChangeable s t (id ∷ [])
+pub one-changeable : (n : ℕ) (s : Schemas) (name : List ℕ × List ℕ) (t : Time) (id : ℕ) (d : Schema) → AreWithin n s.tables → n ≤ 67108866 → found_in s name t ≡ Some (id, d) → AreChangeable s t (id ∷ [])
 one-changeable n s name t id d within small e = record { each = (changeable n s name t id d within small e, tt); differ = refl }
 
 pub one-dropped : (s : Schemas) (t : Time) (id : ℕ) (d : Schema) → in_force (history_of s id) t ≡ Some d → drop_each s t (id ∷ []) ≡ with_descriptor s (id - 100) (dropped d t)
 one-dropped s t id d e = rw e refl
 
 -- ---- a descriptor more
+
+one-within : (n : ℕ) (d e : Schema) → e.version ≤ n → Has d (e ∷ []) → d.version ≤ n
+one-within n d e small (inl is) = rw is small
+one-within n d e small (inr none) = absurd none
 
 has-set : {X : Type 0} (xs : List X) (i : ℕ) (x y : X) → Has y (slice_set xs i x) → Has y xs ⊎ (y ≡ x)
 has-set [] i x y has = inl has
@@ -68,32 +72,21 @@ has-set (z ∷ zs) zero x y (inr more) = inl (inr more)
 has-set (z ∷ zs) (suc i) x y (inl e) = inl (inl e)
 has-set (z ∷ zs) (suc i) x y (inr more) = elim (has-set zs i x y more) [ inl there ↦ inl (inr there) | inr new ↦ inr new ]
 
-pub within-described : (n : ℕ) (s : Schemas) (place : ℕ) (e : Schema) → AreWithin n s.tables → e.version ≤ n + 1 → AreWithin (n + 1) (with_descriptor s place e).tables
-within-described n s place e within small ds d has is = elim (has-set s.tables place _ ds has) [
-  | inl there ↦ (let bound = within ds d there is in omega (arith, bound))
+pub within-described : (n m : ℕ) (s : Schemas) (place : ℕ) (e : Schema) → AreWithin n s.tables → n ≤ m → e.version ≤ m → AreWithin m (with_descriptor s place e).tables
+within-described n m s place e within less small ds d has is = elim (has-set s.tables place _ ds has) [
+  | inl there ↦ (let bound = within ds d there is in omega (arith, bound, less))
   | inr new ↦ elim (has-append_cases d (unwrap_or (slice_get s.tables place) []) (e ∷ []) (subst (Has d) new is)) [
-    | inl old ↦ (let bound = got-within n s.tables place d within old in omega (arith, bound))
-    | inr last ↦ one last
+    | inl old ↦ (let bound = got-within n s.tables place d within old in omega (arith, bound, less))
+    | inr last ↦ one-within m d e small last
   ]
 ]
-  where
-    one : Has d (e ∷ []) → d.version ≤ n + 1
-    one (inl is_e) = rw is_e small
-    one (inr none) = absurd none
 
-pub within-new : (n : ℕ) (tables : List (List Schema)) (e : Schema) → AreWithin n tables → e.version ≡ 1 → AreWithin (n + 1) (tables ++ (e ∷ []) ∷ [])
-within-new n tables e within first ds d has is = elim (has-append_cases ds tables ((e ∷ []) ∷ []) has) [
-  | inl there ↦ (let bound = within ds d there is in omega (arith, bound))
-  | inr new ↦ one new is
+pub within-new : (n m : ℕ) (tables : List (List Schema)) (e : Schema) → AreWithin n tables → n ≤ m → e.version ≤ m → AreWithin m (tables ++ (e ∷ []) ∷ [])
+within-new n m tables e within less small ds d has is = elim (has-append_cases ds tables ((e ∷ []) ∷ []) has) [
+  | inl there ↦ (let bound = within ds d there is in omega (arith, bound, less))
+  | inr new ↦ one new
 ]
   where
-    of-one : (xs : List Schema) → xs ≡ e ∷ [] → Has d xs → d.version ≤ n + 1
-    of-one xs same h = last (subst (Has d) same h)
-      where
-        last : Has d (e ∷ []) → d.version ≤ n + 1
-        last (inl is_e) = rw (is_e, first) (omega arith)
-        last (inr none) = absurd none
-
-    one : Has ds ((e ∷ []) ∷ []) → Has d ds → d.version ≤ n + 1
-    one (inl same) h = of-one ds same h
-    one (inr none) h = absurd none
+    one : Has ds ((e ∷ []) ∷ []) → d.version ≤ m
+    one (inl same) = one-within m d e small (subst (Has d) same is)
+    one (inr none) = absurd none

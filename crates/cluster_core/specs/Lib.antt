@@ -2,4 +2,8 @@ pub mod ClusterView
 pub mod Halting
 pub mod Finding
 pub mod Standing
+pub mod Backing
+pub mod Chains
 pub mod Stepping
+pub mod Restoring
+pub mod Restores

@@ -1,22 +1,38 @@
 -- The machine for which a cluster stands.
-use Rattle.std.specs.Prelude.{◌≡◌, ℕ, ◌+◌, ◌-◌, true, nat_lt, List, [], ◌∷◌, slice_get, Option, Some, option_map, unwrap_or, if◌then◌else◌, Result, Ok, Err}
+use Rattle.std.specs.Prelude.{◌≡◌, ◌≢◌, ℕ, ◌+◌, ◌-◌, ◌^◌, ◌≤◌, true, nat_lt, List, [], ◌∷◌, slice_get, map, length, Option, Some, option_map, unwrap_or, if◌then◌else◌, Result, Ok, Err, MatchResult}
 use Rattle.mvcc_keys.specs.Times.{Time, zero_time, time_le}
 use Rattle.row_codec.specs.declared.rows.Kind.{Kind}
 use Rattle.table_descriptors.specs.Descriptors.{Schema, key_kinds}
 use Rattle.fact_model.specs.Facts.{Has, date}
 use Rattle.history_model.specs.Rows.{RowFact}
 use Rattle.history_model.specs.Histories.{Table, schemas_of, accepted}
+use Rattle.history_model.specs.Layers.{Layer}
+use Rattle.introduced_spans.specs.PlanLaws.{ascend_after}
 use Rattle.version_store.specs.MapHolding.{KeepsAll}
 use Rattle.table_rows.specs.RowTables.{RowTables, HasRows}
-use Rattle.layer_objects.specs.Objects.{rows_of, table_kinds}
+use Rattle.layer_manifest.specs.declared.manifest.Manifest.{Manifest}
+use Rattle.layer_manifest.specs.Manifests.{IsProperManifest, chunk_count}
+use Rattle.layer_manifest.specs.ManifestFiles.{manifest_code}
+use Rattle.layer_model.specs.declared.names.LayerName.{LayerName}
+use Rattle.layer_model.specs.Layers.{IsLayer}
+use Rattle.layer_objects.specs.Objects.{objects_of, rows_of, table_kinds}
+use Rattle.layer_objects.specs.Storable.{IsFull, IsSized}
 use Rattle.reply_texts.specs.declared.refusals.Refusal.{Refusal}
 use Rattle.reply_texts.specs.declared.answers.Answer.{Answer}
 use Rattle.reply_texts.specs.declared.replies.Response.{Response}
 use Rattle.reply_texts.specs.declared.replies.Response.TheVariants.{Answered}
-use Rattle.machine_model.specs.Machine.{Machine, Stepped, refused}
+use Rattle.reply_texts.specs.declared.replies.Response.TheVariants as response
+use Rattle.outside_world.specs.Causes.{Rose}
+use Rattle.outside_world.specs.Disk.{View}
+use Rattle.outside_world.specs.Moments.{LeavesOnly}
+use Rattle.layer_model.specs.declared.names.Part.{Part}
+use Rattle.layer_model.specs.Names.{object_name}
+use Rattle.machine_model.specs.Disks.{IsReady, StandsUntil}
+use Rattle.machine_model.specs.Past.{IsLater}
+use Rattle.machine_model.specs.Machine.{Backup, Job, Machine, Stepped, refused}
 use Rattle.cluster_core.specs.declared.halts.Halt.{Halt}
-use Rattle.cluster_core.specs.declared.halts.Halt.TheVariants.{Refused, Memory}
-use Rattle.cluster_core.specs.ClusterView.{ClusterState}
+use Rattle.cluster_core.specs.declared.halts.Halt.TheVariants.{Refused, Disk, Memory}
+use Rattle.cluster_core.specs.ClusterView.{ClusterState, record_of}
 
 -- ---- what is true of the tables of a cluster
 
@@ -25,12 +41,16 @@ pub record IsOwn (id : ℕ) (kinds : List Kind) (d : Schema) : Type 0 where
   pub id_is : d.id ≡ id
   pub kinds_are : kinds ≡ key_kinds d
 
--- the table of an id: nothing of it is dated after the clock
+-- the table of an id: it has a descriptor, their dates ascend, nothing of it is dated after the clock, and a layer can hold its facts
 pub record IsOrderly (clock : Time) (id : ℕ) (table : Table) : Type 0 where
   pub id_is : table.id ≡ id
   pub schemas : (d : Schema) → Has d table.descriptors → IsOwn id (table_kinds table) d
   pub facts : (f : RowFact) → Has f table.facts → time_le (date f) clock ≡ true
   pub threshold : time_le table.threshold clock ≡ true
+  pub sized : (f : RowFact) → Has f table.facts → IsSized (table_kinds table) f
+  pub dated : (d : Schema) → Has d table.descriptors → time_le d.modified clock ≡ true
+  pub ascend : ascend_after zero_time table.descriptors ≡ true
+  pub begun : table.descriptors ≢ []
 
 -- the cluster has these tables: its catalog their descriptors, its store their facts
 pub record Keeps (c : ClusterState) (tables : List Table) : Type 0 where
@@ -40,24 +60,54 @@ pub record Keeps (c : ClusterState) (tables : List Table) : Type 0 where
   pub orderly : (i : ℕ) (table : Table) → slice_get tables i ≡ Some table → IsOrderly c.clock (100 + i) table
 
 abbrev pub machine_of : ClusterState → List Table → Machine
-machine_of c tables = record { name = c.name; limits = record { events = c.most_events; tables = c.schemas.limit }; clock = c.clock; history = record { databases = c.schemas.databases; tables = tables } }
+machine_of c tables = record { name = c.name; limits = record { events = c.most_events; tables = c.schemas.limit }; clock = c.clock; history = record { databases = c.schemas.databases; tables = tables }; layers = map record_of c.book.layers; jobs = c.jobs }
 
--- the cluster stands for the machine: what was collected is in no store, so it stands for several
-pub record StandsFor (c : ClusterState) (m : Machine) : Type 0 where
+-- the cluster has the tables of the machine: what was collected is in no store, so it has those of several
+pub record HasTables (c : ClusterState) (m : Machine) : Type 0 where
   pub tables : List Table
   pub keeps : Keeps c tables
   pub machine_is : m ≡ machine_of c tables
 
+-- ---- what is true of its backups
+
+-- the record of the backup at a place among the jobs
+pub record IsOwnBackup (c : ClusterState) (tables : List Table) (place : ℕ) (r : Layer) : Type 0 where
+  pub number : r.job ≡ place + 1
+  pub cluster : r.cluster ≡ c.name
+  pub full : IsFull r
+  pub over : time_le r.end c.clock ≡ true
+  pub few : IsLayer (objects_of tables r)
+
+-- a layer in the book is one of a backup, and its manifest there is that of its objects
+pub record IsBooked (jobs : List Job) (tables : List Table) (p : LayerName × Manifest) : Type 0 where
+  pub among : Has (Backup (record_of p)) jobs
+  pub manifest : manifest_code p.1 ≡ (objects_of tables (record_of p)).manifest
+  pub chunks : chunk_count p.1.tables ≡ length (objects_of tables (record_of p)).chunks
+  pub proper : IsProperManifest p.1
+
+-- the cluster keeps the records of its backups, and the manifests of its own layers
+pub record HasBackups (c : ClusterState) (tables : List Table) : Type 0 where
+  pub backups : (place : ℕ) (r : Layer) → slice_get c.jobs place ≡ Some (Backup r) → IsOwnBackup c tables place r
+  pub layers : (p : LayerName × Manifest) → Has p c.book.layers → IsBooked c.jobs tables p
+
+-- the cluster stands for the machine
+pub record StandsFor (c : ClusterState) (m : Machine) : Type 0 where
+  pub tables : List Table
+  pub keeps : Keeps c tables
+  pub machine_is : m ≡ machine_of c tables
+  pub backups : HasBackups c tables
+
 -- ---- what commands make of it
 
--- after a step the cluster stands for its machine, and the response is its response
+-- after a step the cluster has the tables of its machine, and the response is its response
 pub record IsStepped (c : ClusterState) (response : Response) (s : Stepped) : Type 0 where
-  pub stands : StandsFor c s.machine
+  pub stands : HasTables c s.machine
   pub response_is : response ≡ s.response
 
 -- this test refuses, unless memory was wanting
 abbrev pub RefusedBy : Halt → Option Refusal → Type 0
 RefusedBy (Refused refusal) test = test ≡ Some refusal
+RefusedBy Disk test = ⊥
 RefusedBy Memory test = Unit {0}
 
 -- a command of this meaning is refused by that
@@ -68,4 +118,54 @@ Refuses c meaning refusal = (tables : List Table) → Keeps c tables → meaning
 abbrev pub Does : ClusterState → ClusterState → (Machine → Stepped) → Result Answer Halt → Type 0
 Does old new meaning (Ok answer) = (tables : List Table) → Keeps old tables → IsStepped new (Answered answer) (meaning (machine_of old tables))
 Does old new meaning (Err (Refused refusal)) = (new ≡ old) × Refuses old meaning refusal
+Does old new meaning (Err Disk) = ⊥
 Does old new meaning (Err Memory) = Unit {0}
+
+-- what such commands leave as it was
+pub record LeavesRest (old new : ClusterState) : Type 0 where
+  pub steps : new.steps ≡ old.steps
+  pub book : new.book ≡ old.book
+  pub jobs : new.jobs ≡ old.jobs
+
+-- ---- what commands make of it, and of the disk
+
+-- after a step the cluster stands for its machine, with its response, unless the disk failed or memory was wanting
+abbrev pub Responds : ClusterState → Stepped → Result Answer Halt → Type 0
+Responds c s (Ok answer) = StandsFor c s.machine × (s.response ≡ Answered answer)
+Responds c s (Err (Refused refusal)) = StandsFor c s.machine × (s.response ≡ response.Refused refusal)
+Responds c s (Err Disk) = Unit {0}
+Responds c s (Err Memory) = Unit {0}
+
+-- the same of the disk
+abbrev pub IsReadyAfter : Result Answer Halt → Machine → Machine → View → Type 0
+IsReadyAfter (Ok answer) m end v = IsReady (Some m) (Some end) v
+IsReadyAfter (Err (Refused refusal)) m end v = IsReady (Some m) (Some end) v
+IsReadyAfter (Err Disk) m end v = Unit {0}
+IsReadyAfter (Err Memory) m end v = Unit {0}
+
+-- What a command does over a disk that was ready: by its step, and on the way to the end.
+pub record Runs (c : ClusterState) (s : Stepped) (end : Machine) (result : Result Answer Halt) (old new : View) : Type 0 where
+  pub responds : Responds c s result
+  pub ready : IsReadyAfter result s.machine end new
+  pub leaves : LeavesOnly old new (StandsUntil (Some end))
+
+-- the cluster stands for the machine, the disk is ready, and the end is one to which this step leads
+pub record MayStep (c : ClusterState) (m : Machine) (s : Stepped) (end : Machine) (v : View) : Type 0 where
+  pub stands : StandsFor c m
+  pub ready : IsReady (Some m) (Some end) v
+  pub later : IsLater s.machine end
+
+-- names of the own cluster's objects
+abbrev pub IsOwnName : List ℕ → List ℕ → Type 0
+IsOwnName cluster n = (layer : LayerName) × (part : Part) × (layer.cluster ≡ cluster) × (n ≡ object_name layer part)
+
+-- the disk failed just where the halt says so
+abbrev pub HaltCounts : Halt → ℕ → ℕ → Type 0
+HaltCounts Disk before now = Rose before now
+HaltCounts (Refused refusal) before now = now ≡ before
+HaltCounts Memory before now = now ≡ before
+
+pub record HaltHasCause {T : Type 0} (before now : ℕ) (result : Result T Halt) : Type 0 where
+  pub later : before ≤ now
+  pub capped : before ≤ 2 ^ 64 - 1 → now ≤ 2 ^ 64 - 1
+  pub counts : MatchResult result (λ _. now ≡ before) (λ e. HaltCounts e before now)

@@ -1,10 +1,15 @@
 -- What a step answers, and what it leaves of the disk.
-use Rattle.std.specs.Prelude.{◌≡◌, ◌≤◌, ◌-◌, ◌^◌, ℕ, Result, MatchResult}
+use Rattle.std.specs.Prelude.{◌≡◌, ◌≤◌, ◌-◌, ◌^◌, ℕ, Bool, true, false, Some, Result, IfOk, OnOk, MatchResult}
 use Rattle.outside_world.specs.Causes.{Rose}
 use Rattle.reply_texts.specs.declared.replies.Reply.{Reply}
 use Rattle.reply_texts.specs.declared.replies.Response.{Response}
 use Rattle.reply_texts.specs.Texts.{reply_text, refusal_of}
-use Rattle.machine_model.specs.Machine.{Stepped}
+use Rattle.outside_world.specs.Disk.{View}
+use Rattle.outside_world.specs.Moments.{LeavesOnly}
+use Rattle.command_lang.specs.declared.command.Command.{Command}
+use Rattle.command_lang.specs.declared.command.Command.TheVariants.{BackupDatabase, BackupTables, Forget, RestoreDatabase}
+use Rattle.machine_model.specs.Disks.{IsReady, StandsUntil}
+use Rattle.machine_model.specs.Machine.{Machine, Stepped}
 use Rattle.cluster_core.specs.declared.fault.RunFault.{RunFault}
 use Rattle.cluster_core.specs.declared.fault.RunFault.TheVariants.{Disk, Memory, Ended}
 use Rattle.cluster_core.specs.ClusterView.{ClusterState}
@@ -31,3 +36,17 @@ pub record RunHasCause {T : Type 0} (before now : ℕ) (result : Result T RunFau
   pub later : before ≤ now
   pub capped : before ≤ 2 ^ 64 - 1 → now ≤ 2 ^ 64 - 1
   pub counts : MatchResult result (λ _. now ≡ before) (λ e. CountsAs e before now)
+
+-- What a step does over a disk that was ready: by the machine's step, and on the way to the end.
+pub record Steps (c : ClusterState) (s : Stepped) (end : Machine) (result : Result Reply RunFault) (old new : View) : Type 0 where
+  pub replied : IfOk result (λ r. IsReplied c r s)
+  pub ready : OnOk result (IsReady (Some s.machine) (Some end) new)
+  pub leaves : LeavesOnly old new (StandsUntil (Some end))
+
+-- a command that may call the disk
+abbrev pub is_of_disk : Command → Bool
+is_of_disk (BackupDatabase database collection at) = true
+is_of_disk (BackupTables tables collection at) = true
+is_of_disk (RestoreDatabase database source collection at name) = true
+is_of_disk (Forget source collection start end) = true
+is_of_disk c = false

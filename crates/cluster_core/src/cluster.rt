@@ -1,19 +1,21 @@
 //! The cluster, and one step for each command.
-ghost use Rattle.std.specs.Prelude.{◌≡◌, ◌≢◌, ◌↔◌, ◌≤◌, ◌<◌, ◌+◌, true, false, List, Option, IfOk, IfErr, OnOk, OnErr};
+ghost use Rattle.std.specs.Prelude.{◌≡◌, ◌≢◌, ◌↔◌, ◌≤◌, ◌<◌, ◌+◌, true, false, length, List, IfOk, IfErr, IfSome, IsNone, OnOk, OnErr};
 ghost use Rattle.mvcc_keys.specs.Times.{time_lt};
-ghost use Rattle.outside_world.specs.Moments.{ChangesOnly, LeavesOnly, NoName};
+ghost use Rattle.outside_world.specs.Moments.{ChangesOnly};
 ghost use Rattle.machine_model.specs.Machine.{World, Machine, empty_machine};
-ghost use Rattle.machine_model.specs.Disks.{IsReady, StandsUntil};
 ghost use Rattle.machine_model.specs.Tables.{tick};
 ghost use Rattle.machine_model.specs.Step.{step};
 ghost use Rattle.cluster_core.specs.declared.fault.RunFault.TheVariants as fault;
-ghost use Rattle.cluster_core.specs.Standing.{StandsFor, IsStepped, Does};
-ghost use Rattle.cluster_core.specs.Stepping.{IsReplied, RunHasCause};
+ghost use Rattle.cluster_core.specs.Standing.{Does, HaltHasCause, IsOwnName, LeavesRest, MayStep, Runs, StandsFor};
+ghost use Rattle.cluster_core.specs.Backing.{StandsStill};
+ghost use Rattle.cluster_core.specs.Stepping.{RunHasCause, Steps, is_of_disk};
 
 use crate::fault::RunFault;
 use crate::halts::Halt;
+use crate::jobs::Job;
 use command_lang::Command;
-use mvcc_keys::Hlc;
+use layer_book::LayerBook;
+use mvcc_keys::{Hlc, Memory};
 use outside_world::Disk;
 use reply_texts::{Answer, Refusal, Reply, Response};
 use schema_catalog::Catalog;
@@ -39,6 +41,9 @@ pub struct Cluster {
     pub(crate) clock: Hlc,
     pub(crate) catalog: Catalog,
     pub(crate) rows: TableRows<MvccMap>,
+    /// The own layers.
+    pub(crate) book: LayerBook,
+    pub(crate) jobs: Vec<Job>,
     /// How many facts were ever accepted.
     pub(crate) events: u32,
     /// How many commands were executed.
@@ -72,24 +77,28 @@ fn is_before(s: Hlc, t: Hlc) -> bool
 
 impl Cluster {
     /// A cluster that has done nothing.
-    pub fn new(alloc: Global, name: Name, clock: Hlc, limits: Limits) -> Cluster
-        requires { limits.tables ≤ 4096 }
-        ensures stands { StandsFor result (empty_machine name clock (record { events = limits.events; tables = limits.tables })) }
-        ensures steps { result.steps ≡ 0 }
-        ensures ended { result.ended ≡ false }
+    pub fn new(alloc: Global, name: Name, clock: Hlc, limits: Limits) -> Result<Cluster, Memory>
+        requires tables { limits.tables ≤ 4096 }
+        requires events { limits.events ≤ 1000000 }
+        ensures stands { IfOk result (λ c. StandsFor c (empty_machine name clock (record { events = limits.events; tables = limits.tables }))) }
+        ensures steps { IfOk result (λ c. c.steps ≡ 0) }
+        ensures ended { IfOk result (λ c. c.ended ≡ false) }
     {
-        Cluster {
+        let book = LayerBook::new(alloc, name.copy(alloc)?);
+        Ok(Cluster {
             alloc,
             name,
             most_events: limits.events,
             clock,
             catalog: Catalog::new(alloc, limits.tables),
             rows: TableRows::new(alloc, MvccMap::new(alloc)),
+            book,
+            jobs: Vec::new(alloc),
             events: 0,
             steps: 0,
             changes: 0,
             ended: false,
-        }
+        })
     }
 
     /// How many commands were executed.
@@ -102,7 +111,7 @@ impl Cluster {
     #[tactic(auto, unfolding(machine_model::specs::Tables::tick))]
     fn tick(&mut self, wall: u64) -> Result<Answer, Halt>
         ensures step { Does self.old self.new (λ m. tick m wall) result }
-        ensures steps { self.new.steps ≡ self.old.steps }
+        ensures rest { LeavesRest self.old self.new }
     {
         let start = Hlc::at_wall(wall);
         if is_before(self.clock, start) {
@@ -112,87 +121,152 @@ impl Cluster {
         Err(Halt::Refused(Refusal::TickBack { now: self.clock }))
     }
 
+    /// Executes a command that has nothing to do with the disk; None for every other.
     #[tactic(auto, unfolding(machine_model::specs::Step::step))]
-    fn execute(&mut self, command: &Command) -> Result<Answer, Halt>
+    fn execute_here(&mut self, command: &Command) -> Option<Result<Answer, Halt>>
         requires { self.old.changes < self.old.steps }
-        ensures step { (worlds : List World) → Does self.old self.new (λ m. step worlds m command.now) result }
-        ensures steps { self.new.steps ≡ self.old.steps }
+        ensures step { IfSome result (λ done. (worlds : List World) → Does self.old self.new (λ m. step worlds m command.now) done) }
+        ensures other { IsNone result → is_of_disk command.now ≡ true }
+        ensures same { IsNone result → self.new ≡ self.old }
+        ensures rest { LeavesRest self.old self.new }
     {
         match command {
-            Command::Cluster { .. } => Ok(Answer::Nothing),
-            Command::Tick { wall } => self.tick(*wall),
-            Command::CreateDatabase { name } => self.create_database(name),
+            Command::Cluster { .. } => Some(Ok(Answer::Nothing)),
+            Command::Tick { wall } => Some(self.tick(*wall)),
+            Command::CreateDatabase { name } => Some(self.create_database(name)),
             Command::CreateTable {
                 table,
                 columns,
                 key,
                 references,
-            } => self.create_table(
+            } => Some(self.create_table(
                 table,
                 columns.as_slice(),
                 key.as_slice(),
                 references.as_slice(),
-            ),
-            Command::AddColumn { table, name, kind } => self.add_column(table, name, *kind),
-            Command::DropColumn { table, name } => self.drop_column(table, name),
-            Command::RenameColumn { table, name, to } => self.rename_column(table, name, to),
-            Command::RenameTable { table, to } => self.rename_table(table, to),
-            Command::DropTable { table } => self.drop_table(table),
-            Command::Upsert { table, rows } => self.upsert(table, rows.as_slice()),
-            Command::Delete { table, keys } => self.delete(table, keys.as_slice()),
-            Command::DeleteRange { table, lo, hi } => self.delete_range(table, lo, hi),
-            Command::Select { table, at } => self.select(table, *at),
-            Command::Gc { table, before } => self.collect(table, *before),
+            )),
+            Command::AddColumn { table, name, kind } => Some(self.add_column(table, name, *kind)),
+            Command::DropColumn { table, name } => Some(self.drop_column(table, name)),
+            Command::RenameColumn { table, name, to } => {
+                Some(self.rename_column(table, name, to))
+            }
+            Command::RenameTable { table, to } => Some(self.rename_table(table, to)),
+            Command::DropTable { table } => Some(self.drop_table(table)),
+            Command::Upsert { table, rows } => Some(self.upsert(table, rows.as_slice())),
+            Command::Delete { table, keys } => Some(self.delete(table, keys.as_slice())),
+            Command::DeleteRange { table, lo, hi } => Some(self.delete_range(table, lo, hi)),
+            Command::Select { table, at } => Some(self.select(table, *at)),
+            Command::Gc { table, before } => Some(self.collect(table, *before)),
+            Command::ShowBackups { collection } => Some(self.show_backups(collection)),
+            Command::BackupDatabase { .. }
+            | Command::BackupTables { .. }
+            | Command::RestoreDatabase { .. }
+            | Command::Forget { .. } => None,
         }
     }
 
-    /// Carries out a command, and answers what its reply says.
-    fn respond(&mut self, command: &Command) -> Result<Response, RunFault>
-        requires { self.old.changes < self.old.steps }
-        ensures step { IfOk result (λ r. (worlds : List World) (m : Machine) → StandsFor self.old m → IsStepped self.new r (step worlds m command.now)) }
+    /// Executes a command that has to do with the disk.
+    #[tactic(auto, unfolding(machine_model::specs::Step::step))]
+    fn execute_on<D: Disk>(&mut self, command: &Command, disk: &mut D) -> Result<Answer, Halt>
+        requires disk { is_of_disk command.now ≡ true }
+        requires room { length self.old.jobs < self.old.steps }
+        requires stands { (m : Machine) × StandsFor self.old m }
+        ensures step { (worlds : List World) (m end : Machine) → MayStep self.old m (step worlds m command.now) end (D.view disk.old)
+            → Runs self.new (step worlds m command.now) end result (D.view disk.old) (D.view disk.new) }
+        ensures stays { StandsStill result self.new }
+        ensures changes { ChangesOnly (IsOwnName self.old.name) (IsOwnName self.old.name) (D.view disk.old) (D.view disk.new) }
         ensures steps { self.new.steps ≡ self.old.steps }
-        ensures fault { IfErr result (λ e. e ≡ fault.Memory) }
+        ensures cause { HaltHasCause (D.view disk.old).faults (D.view disk.new).faults result }
     {
-        match self.execute(command) {
-            Ok(answer) => Ok(Response::Answered(answer)),
-            Err(Halt::Refused(refusal)) => Ok(Response::Refused(refusal)),
-            Err(Halt::Memory) => Err(RunFault::Memory),
+        match command {
+            Command::BackupDatabase {
+                database,
+                collection,
+                at,
+            } => self.backup_database(disk, database, collection, *at),
+            Command::BackupTables {
+                tables,
+                collection,
+                at,
+            } => self.backup_tables(disk, tables.as_slice(), collection, *at),
+            Command::RestoreDatabase {
+                database,
+                source,
+                collection,
+                at,
+                new_name,
+            } => self.restore_database(disk, database, source, collection, *at, new_name),
+            Command::Forget {
+                source,
+                collection,
+                start,
+                end,
+            } => self.forget(disk, source, collection, *start, *end),
+            _ => unreachable!(),
+        }
+    }
+
+    /// Carries out a command.
+    fn execute<D: Disk>(&mut self, command: &Command, disk: &mut D) -> Result<Answer, Halt>
+        requires changes { self.old.changes < self.old.steps }
+        requires jobs { length self.old.jobs < self.old.steps }
+        requires stands { (m : Machine) × StandsFor self.old m }
+        ensures step { (worlds : List World) (m end : Machine) → MayStep self.old m (step worlds m command.now) end (D.view disk.old)
+            → Runs self.new (step worlds m command.now) end result (D.view disk.old) (D.view disk.new) }
+        ensures stays { StandsStill result self.new }
+        ensures changes { ChangesOnly (IsOwnName self.old.name) (IsOwnName self.old.name) (D.view disk.old) (D.view disk.new) }
+        ensures steps { self.new.steps ≡ self.old.steps }
+        ensures cause { HaltHasCause (D.view disk.old).faults (D.view disk.new).faults result }
+    {
+        match self.execute_here(command) {
+            Some(done) => done,
+            None => self.execute_on(command, disk),
         }
     }
 
     /// Carries out a command, and answers its reply.
-    fn reply(&mut self, command: &Command) -> Result<Reply, RunFault>
-        requires { self.old.changes < self.old.steps }
-        ensures step { IfOk result (λ r. (worlds : List World) (m : Machine) → StandsFor self.old m → IsReplied self.new r (step worlds m command.now)) }
+    fn reply<D: Disk>(&mut self, command: &Command, disk: &mut D) -> Result<Reply, RunFault>
+        requires changes { self.old.changes < self.old.steps }
+        requires jobs { length self.old.jobs < self.old.steps }
+        requires stands { (m : Machine) × StandsFor self.old m }
+        ensures step { (worlds : List World) (m end : Machine) → MayStep self.old m (step worlds m command.now) end (D.view disk.old)
+            → Steps self.new (step worlds m command.now) end result (D.view disk.old) (D.view disk.new) }
+        ensures stays { OnOk result ((m : Machine) × StandsFor self.new m) }
+        ensures changes { ChangesOnly (IsOwnName self.old.name) (IsOwnName self.old.name) (D.view disk.old) (D.view disk.new) }
         ensures steps { self.new.steps ≡ self.old.steps }
-        ensures fault { IfErr result (λ e. e ≡ fault.Memory) }
+        ensures fault { IfErr result (λ e. e ≢ fault.Ended) }
+        ensures cause { RunHasCause (D.view disk.old).faults (D.view disk.new).faults result }
     {
-        let response = self.respond(command)?;
+        let response = match self.execute(command, disk) {
+            Ok(answer) => Response::Answered(answer),
+            Err(Halt::Refused(refusal)) => Response::Refused(refusal),
+            Err(Halt::Disk) => return Err(RunFault::Disk),
+            Err(Halt::Memory) => return Err(RunFault::Memory),
+        };
         Ok(Reply::new(self.alloc, response)?)
     }
 
     /// Executes a command. It is called for each line of a script at most once, so fewer times than
     /// a script may have bytes. The open layers of other clusters, the worlds, have no part in what
-    /// is built so far, and no command has to do with the disk.
+    /// is built so far.
     pub fn step<D: Disk>(&mut self, command: &Command, disk: &mut D) -> Result<Reply, RunFault>
-        requires { self.old.steps < 67108864 }
-        ensures step { (worlds : List World) (m : Machine) (end : Option Machine) → StandsFor self.old m → IsReady end (D.view disk.old) →
-            IfOk result (λ r. IsReplied self.new r (step worlds m command.now)) }
-        ensures ready { (end : Option Machine) → IsReady end (D.view disk.old) → OnOk result (IsReady end (D.view disk.new)) }
-        ensures leaves { (end : Option Machine) → IsReady end (D.view disk.old) → LeavesOnly (D.view disk.old) (D.view disk.new) (StandsUntil end) }
-        ensures changes { ChangesOnly NoName NoName (D.view disk.old) (D.view disk.new) }
+        requires few { self.old.steps < 67108864 }
+        requires stands { (m : Machine) × StandsFor self.old m }
+        ensures step { (worlds : List World) (m end : Machine) → MayStep self.old m (step worlds m command.now) end (D.view disk.old)
+            → Steps self.new (step worlds m command.now) end result (D.view disk.old) (D.view disk.new) }
+        ensures stays { OnOk result ((m : Machine) × StandsFor self.new m) }
+        ensures changes { ChangesOnly (IsOwnName self.old.name) (IsOwnName self.old.name) (D.view disk.old) (D.view disk.new) }
         ensures steps { self.new.steps ≡ self.old.steps + 1 }
         ensures going { OnOk result ((self.old.ended ≡ false) × (self.new.ended ≡ false)) }
         ensures ended { OnErr result (self.new.ended ≡ true) }
         ensures fault { IfErr result (λ e. (e ≡ fault.Ended) ↔ (self.old.ended ≡ true)) }
         ensures cause { RunHasCause (D.view disk.old).faults (D.view disk.new).faults result }
     {
-        let _ = &disk;
         self.steps += 1;
         if self.ended {
             return Err(RunFault::Ended);
         }
-        let done = self.reply(command);
+        let done = self.reply(command, disk);
         self.ended = done.is_err();
         done
     }

@@ -1,17 +1,19 @@
 //! The machine over a catalog and a store of versions: one command is one step.
 #![tactic(auto)]
 
+mod backups;
+mod chains;
 mod cluster;
 mod fault;
 mod finding;
 mod halts;
+mod jobs;
 mod laws;
+mod restores;
+mod restoring;
 mod rows;
 mod schemas;
 
 pub use cluster::{Cluster, Limits};
 pub use fault::RunFault;
 pub use laws::steps_are_later;
-
-#[cfg(test)]
-mod tests;

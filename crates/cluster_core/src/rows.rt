@@ -1,16 +1,15 @@
 //! The commands on rows.
 ghost use Rattle.std.specs.Prelude.{◌≡◌, ◌≤◌, ◌+◌, nat_lt, None, length, OnOk, IfOk, IfErr, List};
-ghost use Rattle.mvcc_keys.specs.Times.{time_lt};
 ghost use Rattle.table_descriptors.specs.Descriptors.{Schema};
-ghost use Rattle.reply_texts.specs.declared.refusals.Refusal.TheVariants.{Future, TooManyEvents};
+ghost use Rattle.reply_texts.specs.declared.refusals.Refusal.TheVariants.{TooManyEvents};
 ghost use Rattle.history_model.specs.Histories.{Table};
 ghost use Rattle.machine_model.specs.Machine.{refusal_if};
 ghost use Rattle.machine_model.specs.TableRows.{upsert, delete, delete_range, select, collect};
 ghost use Rattle.cluster_core.specs.Halting.{halt_of_select};
-ghost use Rattle.cluster_core.specs.Standing.{Does, RefusedBy};
+ghost use Rattle.cluster_core.specs.Standing.{Does, LeavesRest, RefusedBy};
 
 use crate::cluster::Cluster;
-use crate::finding::{check_public, drawn, find_table};
+use crate::finding::{check_past, check_public, drawn, find_table};
 use crate::halts::Halt;
 use mvcc_keys::{Hlc, Items};
 use reply_texts::{Answer, Refusal};
@@ -20,7 +19,7 @@ use table_rows::SelectFault;
 use version_store::Versions;
 
 /// Refuses more facts than may be accepted.
-fn check_room(most: u32, events: u32, more: usize) -> Result<(), Halt>
+pub(crate) fn check_room(most: u32, events: u32, more: usize) -> Result<(), Halt>
     requires { events ≤ most }
     ensures passed { OnOk result (refusal_if (nat_lt most (events + more)) TooManyEvents ≡ None) }
     ensures fits { OnOk result (events + more ≤ most) }
@@ -28,17 +27,6 @@ fn check_room(most: u32, events: u32, more: usize) -> Result<(), Halt>
 {
     if more > (most - events) as usize {
         return Err(Halt::Refused(Refusal::TooManyEvents));
-    }
-    Ok(())
-}
-
-/// Refuses a time after the clock.
-fn check_past(clock: Hlc, t: Hlc) -> Result<(), Halt>
-    ensures passed { OnOk result (refusal_if (time_lt clock t) (Future clock) ≡ None) }
-    ensures refused { IfErr result (λ e. RefusedBy e (refusal_if (time_lt clock t) (Future clock))) }
-{
-    if clock < t {
-        return Err(Halt::Refused(Refusal::Future { now: clock }));
     }
     Ok(())
 }
@@ -56,7 +44,7 @@ impl Cluster {
     #[tactic(auto, unfolding(machine_model::specs::TableRows::upsert))]
     pub(crate) fn upsert(&mut self, name: &(Name, Name), rows: &[Row]) -> Result<Answer, Halt>
         ensures step { Does self.old self.new (λ m. upsert m name.now rows.now) result }
-        ensures steps { self.new.steps ≡ self.old.steps }
+        ensures rest { LeavesRest self.old self.new }
     {
         let at = drawn(self.clock)?;
         let (_, d) = find_table(self.alloc, &self.catalog, name, at)?;
@@ -75,7 +63,7 @@ impl Cluster {
     #[tactic(auto, unfolding(machine_model::specs::TableRows::delete))]
     pub(crate) fn delete(&mut self, name: &(Name, Name), keys: &[Row]) -> Result<Answer, Halt>
         ensures step { Does self.old self.new (λ m. delete m name.now keys.now) result }
-        ensures steps { self.new.steps ≡ self.old.steps }
+        ensures rest { LeavesRest self.old self.new }
     {
         let at = drawn(self.clock)?;
         let (_, d) = find_table(self.alloc, &self.catalog, name, at)?;
@@ -99,7 +87,7 @@ impl Cluster {
         hi: &Row,
     ) -> Result<Answer, Halt>
         ensures step { Does self.old self.new (λ m. delete_range m name.now lo.now hi.now) result }
-        ensures steps { self.new.steps ≡ self.old.steps }
+        ensures rest { LeavesRest self.old self.new }
     {
         let at = drawn(self.clock)?;
         let (_, d) = find_table(self.alloc, &self.catalog, name, at)?;
@@ -131,7 +119,7 @@ impl Cluster {
     #[tactic(auto, unfolding(machine_model::specs::TableRows::collect))]
     pub(crate) fn collect(&mut self, name: &(Name, Name), g: Hlc) -> Result<Answer, Halt>
         ensures step { Does self.old self.new (λ m. collect m name.now g) result }
-        ensures steps { self.new.steps ≡ self.old.steps }
+        ensures rest { LeavesRest self.old self.new }
     {
         let (table, d) = find_table(self.alloc, &self.catalog, name, self.clock)?;
         check_public(self.alloc, name, d)?;

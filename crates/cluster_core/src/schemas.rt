@@ -2,7 +2,7 @@
 ghost use Rattle.std.specs.Prelude.{◌≡◌, ◌<◌, length};
 ghost use Rattle.table_descriptors.specs.declared.changes.Change.TheVariants.{Add, Remove, RenameColumn, Rename};
 ghost use Rattle.machine_model.specs.Tables.{create_database, create_table, alter, drop_table};
-ghost use Rattle.cluster_core.specs.Standing.{Does};
+ghost use Rattle.cluster_core.specs.Standing.{Does, LeavesRest};
 
 use crate::cluster::Cluster;
 use crate::finding::{check_public, drawn, find_table};
@@ -15,7 +15,7 @@ impl Cluster {
     #[tactic(auto, unfolding(machine_model::specs::Tables::create_database))]
     pub(crate) fn create_database(&mut self, name: &Name) -> Result<Answer, Halt>
         ensures step { Does self.old self.new (λ m. create_database m name.now) result }
-        ensures steps { self.new.steps ≡ self.old.steps }
+        ensures rest { LeavesRest self.old self.new }
     {
         self.catalog.create_database(name)?;
         Ok(Answer::Plain)
@@ -32,7 +32,7 @@ impl Cluster {
         requires key { 0 < length key.now }
         requires room { self.old.changes < self.old.steps }
         ensures step { Does self.old self.new (λ m. create_table m name.now columns.now key.now references.now) result }
-        ensures steps { self.new.steps ≡ self.old.steps }
+        ensures rest { LeavesRest self.old self.new }
     {
         let at = drawn(self.clock)?;
         let made = self
@@ -48,7 +48,7 @@ impl Cluster {
     fn alter(&mut self, name: &(Name, Name), change: &Change) -> Result<Answer, Halt>
         requires { self.old.changes < self.old.steps }
         ensures step { Does self.old self.new (λ m. alter m name.now change.now) result }
-        ensures steps { self.new.steps ≡ self.old.steps }
+        ensures rest { LeavesRest self.old self.new }
     {
         let at = drawn(self.clock)?;
         let (table, d) = find_table(self.alloc, &self.catalog, name, at)?;
@@ -67,7 +67,7 @@ impl Cluster {
     ) -> Result<Answer, Halt>
         requires { self.old.changes < self.old.steps }
         ensures step { Does self.old self.new (λ m. alter m table.now (Add name.now kind)) result }
-        ensures steps { self.new.steps ≡ self.old.steps }
+        ensures rest { LeavesRest self.old self.new }
     {
         let name = name.copy(self.alloc)?;
         self.alter(table, &Change::Add { name, kind })
@@ -76,7 +76,7 @@ impl Cluster {
     pub(crate) fn drop_column(&mut self, table: &(Name, Name), name: &Name) -> Result<Answer, Halt>
         requires { self.old.changes < self.old.steps }
         ensures step { Does self.old self.new (λ m. alter m table.now (Remove name.now)) result }
-        ensures steps { self.new.steps ≡ self.old.steps }
+        ensures rest { LeavesRest self.old self.new }
     {
         let name = name.copy(self.alloc)?;
         self.alter(table, &Change::Remove { name })
@@ -90,7 +90,7 @@ impl Cluster {
     ) -> Result<Answer, Halt>
         requires { self.old.changes < self.old.steps }
         ensures step { Does self.old self.new (λ m. alter m table.now (RenameColumn from.now to.now)) result }
-        ensures steps { self.new.steps ≡ self.old.steps }
+        ensures rest { LeavesRest self.old self.new }
     {
         let from = from.copy(self.alloc)?;
         let to = to.copy(self.alloc)?;
@@ -100,7 +100,7 @@ impl Cluster {
     pub(crate) fn rename_table(&mut self, table: &(Name, Name), to: &Name) -> Result<Answer, Halt>
         requires { self.old.changes < self.old.steps }
         ensures step { Does self.old self.new (λ m. alter m table.now (Rename to.now)) result }
-        ensures steps { self.new.steps ≡ self.old.steps }
+        ensures rest { LeavesRest self.old self.new }
     {
         let to = to.copy(self.alloc)?;
         self.alter(table, &Change::Rename { to })
@@ -110,7 +110,7 @@ impl Cluster {
     pub(crate) fn drop_table(&mut self, name: &(Name, Name)) -> Result<Answer, Halt>
         requires { self.old.changes < self.old.steps }
         ensures step { Does self.old self.new (λ m. drop_table m name.now) result }
-        ensures steps { self.new.steps ≡ self.old.steps }
+        ensures rest { LeavesRest self.old self.new }
     {
         let at = drawn(self.clock)?;
         let (table, d) = find_table(self.alloc, &self.catalog, name, at)?;

@@ -2,12 +2,12 @@
 use Rattle.std.proofs.Common.{Bool, true, false, List, [], ◌∷◌, ◌++◌, codes, Some, None, refl}
 use Rattle.script_grammar.specs.Grammar.{Form, one, ◌making◌}
 use Rattle.script_grammar.specs.Columns.{IsExact}
-use Rattle.script_grammar.specs.Parts.{name, new_name_of, count_of, kind_of, time_of, table, row, columns, starts_column}
-use Rattle.script_grammar.proofs.Rights.{IsRight, explained, then_, then_before_, word_, mark_, end_, making_, bars_mark_mark, bars_mark_end, bars_word_end}
-use Rattle.script_grammar.proofs.PartsExact.{name_part, new_name_part, count_part, kind_part, time_part, table_part, row_part, columns_part, key_part, key_then_bars_column, references_, rows_, asof_}
+use Rattle.script_grammar.specs.Parts.{name, new_name_of, count_of, kind_of, time_of, table, row, columns, starts_column, collection_of, source_in}
+use Rattle.script_grammar.proofs.Rights.{IsRight, explained, then_, then_before_, word_, mark_, end_, making_, bars_mark_mark, bars_mark_word, bars_mark_end, bars_word_end}
+use Rattle.script_grammar.proofs.PartsExact.{name_part, new_name_part, count_part, kind_part, time_part, table_part, row_part, columns_part, key_part, key_then_bars_column, references_, rows_, asof_, collection_part, source_in_part, tables_, restore_options_, restore_options_bar}
 use Rattle.script_grammar.proofs.Families.{Lead, Leads, Family, lead_word, lead_table, lead_end, family, making_family, or_}
-use Rattle.command_lang.specs.declared.command.Command.TheVariants.{Cluster, Tick, CreateDatabase, CreateTable, AddColumn, DropColumn, RenameColumn, RenameTable, DropTable, Upsert, Delete, DeleteRange, Select, Gc}
-use Rattle.command_lang.specs.Forms.{cluster, tick, create_database, create_table, drop_table, add_column, drop_column, rename_column, rename_table, upsert, delete, delete_range, select, gc, schema_command, alter_command, row_command, command}
+use Rattle.command_lang.specs.declared.command.Command.TheVariants.{Cluster, Tick, CreateDatabase, CreateTable, AddColumn, DropColumn, RenameColumn, RenameTable, DropTable, Upsert, Delete, DeleteRange, Select, Gc, BackupDatabase, BackupTables, RestoreDatabase, Forget, ShowBackups}
+use Rattle.command_lang.specs.Forms.{cluster, tick, create_database, create_table, drop_table, add_column, drop_column, rename_column, rename_table, upsert, delete, delete_range, select, gc, backup_database, backup_tables, restore_database, forget, show_backups, schema_command, alter_command, row_command, layer_command, command}
 
 -- ---- each form is read right
 
@@ -78,6 +78,35 @@ gc_right : IsRight gc
 unfolding gc
 gc_right = word_ _ _ refl (then_ table _ table_part (λ t. word_ _ _ refl (then_ (one time_of) _ time_part (λ before. end_ _))))
 
+backup_database_right : IsRight backup_database
+unfolding backup_database
+backup_database_right =
+    word_ _ _ refl (word_ _ _ refl (then_ name _ name_part (λ d. word_ _ _ refl (then_ (one collection_of) _ collection_part
+    (λ c. asof_ _ (λ at. end_ _) (bars_word_end (codes "as") _))))))
+
+backup_tables_right : IsRight backup_tables
+unfolding backup_tables
+backup_tables_right =
+    word_ _ _ refl (word_ _ _ refl (tables_ _ (λ ts. word_ _ _ refl (then_ (one collection_of) _ collection_part
+    (λ c. asof_ _ (λ at. end_ _) (bars_word_end (codes "as") _)))) (λ ts. bars_mark_word 44 (codes "into") _)))
+
+restore_database_right : IsRight restore_database
+unfolding restore_database
+restore_database_right =
+    word_ _ _ refl (word_ _ _ refl (then_ name _ name_part (λ d. word_ _ _ refl (then_ source_in _ source_in_part
+    (λ s. asof_ _ (λ at. restore_options_ _ (λ new. end_ _) (λ new. bars_mark_end 44 _ refl) (bars_word_end (codes "with") _))
+    (restore_options_bar (codes "as") _ refl (bars_word_end (codes "as") _)))))))
+
+forget_right : IsRight forget
+unfolding forget
+forget_right =
+    word_ _ _ refl (word_ _ _ refl (word_ _ _ refl (then_ source_in _ source_in_part (λ s. word_ _ _ refl
+    (then_ (one time_of) _ time_part (λ start. word_ _ _ refl (then_ (one time_of) _ time_part (λ end. end_ _))))))))
+
+show_backups_right : IsRight show_backups
+unfolding show_backups
+show_backups_right = word_ _ _ refl (word_ _ _ refl (word_ _ _ refl (then_ (one collection_of) _ collection_part (λ c. end_ _))))
+
 -- ---- what each begins with
 
 tick_leads : Leads (Some (codes "tick") ∷ []) tick
@@ -136,6 +165,26 @@ gc_leads : Leads (Some (codes "gc") ∷ []) gc
 unfolding gc
 gc_leads = lead_word _ _ _ (lead_end _)
 
+backup_database_leads : Leads (Some (codes "backup") ∷ Some (codes "database") ∷ []) backup_database
+unfolding backup_database
+backup_database_leads = lead_word _ _ _ (lead_word _ _ _ (lead_end _))
+
+backup_tables_leads : Leads (Some (codes "backup") ∷ Some (codes "table") ∷ []) backup_tables
+unfolding backup_tables
+backup_tables_leads = lead_word _ _ _ (lead_word _ _ _ (lead_end _))
+
+restore_database_leads : Leads (Some (codes "restore") ∷ []) restore_database
+unfolding restore_database
+restore_database_leads = lead_word _ _ _ (lead_end _)
+
+forget_leads : Leads (Some (codes "forget") ∷ []) forget
+unfolding forget
+forget_leads = lead_word _ _ _ (lead_end _)
+
+show_backups_leads : Leads (Some (codes "show") ∷ []) show_backups
+unfolding show_backups
+show_backups_leads = lead_word _ _ _ (lead_end _)
+
 -- ---- families
 
 made : {A B : Type 0} (ps : Lead) (f : Form A) (make : A → B) → IsRight f → Leads ps f → Family (ps ∷ []) (f making make)
@@ -176,11 +225,25 @@ row_family =
     (made _ select (λ x. Select x.0 x.1) select_right select_leads) refl)
     (made _ gc (λ x. Gc x.0 x.1) gc_right gc_leads) refl
 
-command_family : Family ((Some (codes "tick") ∷ []) ∷ schema_leads ++ alter_leads ++ row_leads) (command false)
-unfolding command schema_leads alter_leads row_leads
+layer_leads : List Lead
+layer_leads =
+    (Some (codes "backup") ∷ Some (codes "database") ∷ []) ∷ (Some (codes "backup") ∷ Some (codes "table") ∷ []) ∷ (Some (codes "restore") ∷ [])
+    ∷ (Some (codes "forget") ∷ []) ∷ (Some (codes "show") ∷ []) ∷ []
+
+layer_family : Family layer_leads layer_command
+unfolding layer_command layer_leads
+layer_family =
+    or_ _ _ _ _ (or_ _ _ _ _ (or_ _ _ _ _ (or_ _ _ _ _ (made _ backup_database (λ x. BackupDatabase x.0 x.1 x.2) backup_database_right backup_database_leads)
+    (made _ backup_tables (λ x. BackupTables x.0 x.1 x.2) backup_tables_right backup_tables_leads) refl)
+    (made _ restore_database (λ x. RestoreDatabase x.0 x.1 x.2 x.3 x.4) restore_database_right restore_database_leads) refl)
+    (made _ forget (λ x. Forget x.0 x.1 x.2 x.3) forget_right forget_leads) refl)
+    (made _ show_backups ShowBackups show_backups_right show_backups_leads) refl
+
+command_family : Family ((Some (codes "tick") ∷ []) ∷ schema_leads ++ alter_leads ++ row_leads ++ layer_leads) (command false)
+unfolding command schema_leads alter_leads row_leads layer_leads
 command_family =
-    or_ _ row_leads _ row_command (or_ _ alter_leads _ alter_command (or_ _ schema_leads _ schema_command
-    (made _ tick Tick tick_right tick_leads) schema_family refl) alter_family refl) row_family refl
+    or_ _ layer_leads _ layer_command (or_ _ row_leads _ row_command (or_ _ alter_leads _ alter_command (or_ _ schema_leads _ schema_command
+    (made _ tick Tick tick_right tick_leads) schema_family refl) alter_family refl) row_family refl) layer_family refl
 
 command_right : (first : Bool) → IsRight (command first)
 unfolding command

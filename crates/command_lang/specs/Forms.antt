@@ -4,9 +4,10 @@ use Rattle.mvcc_keys.specs.Times.{Time}
 use Rattle.row_codec.specs.declared.rows.Datum.{Datum}
 use Rattle.row_codec.specs.declared.rows.Kind.{Kind}
 use Rattle.script_grammar.specs.Grammar.{Form, ◌>>=◌, ◌>>◌, one, word, mark, ending, ◌making◌, ◌or◌}
-use Rattle.script_grammar.specs.Parts.{name, new_name_of, count_of, kind_of, time_of, table, row, rows, asof, columns, key, references}
+use Rattle.script_grammar.specs.Parts.{name, new_name_of, count_of, kind_of, time_of, table, row, rows, asof, columns, key, references, collection_of, source_in, tables, restore_options}
+use Rattle.script_grammar.specs.declared.backups.Src.{Src}
 use Rattle.command_lang.specs.declared.command.Command.{Command}
-use Rattle.command_lang.specs.declared.command.Command.TheVariants.{Cluster, Tick, CreateDatabase, CreateTable, AddColumn, DropColumn, RenameColumn, RenameTable, DropTable, Upsert, Delete, DeleteRange, Select, Gc}
+use Rattle.command_lang.specs.declared.command.Command.TheVariants.{Cluster, Tick, CreateDatabase, CreateTable, AddColumn, DropColumn, RenameColumn, RenameTable, DropTable, Upsert, Delete, DeleteRange, Select, Gc, BackupDatabase, BackupTables, RestoreDatabase, Forget, ShowBackups}
 
 -- ---- the cluster
 
@@ -158,6 +159,80 @@ gc = do
   before ← one time_of
   ending (t, before)
 
+-- ---- backups
+
+-- BACKUP DATABASE name INTO coll [AS OF SYSTEM TIME time]
+unfoldable pub backup_database : Form (List ℕ × List ℕ × Option Time)
+backup_database = do
+  word (codes "backup")
+  word (codes "database")
+  d ← name
+  word (codes "into")
+  c ← one collection_of
+  at ← asof
+  ending (d, c, at)
+
+-- BACKUP TABLE tbl {, tbl} INTO coll [AS OF SYSTEM TIME time]
+unfoldable pub backup_tables : Form (List (List ℕ × List ℕ) × List ℕ × Option Time)
+backup_tables = do
+  word (codes "backup")
+  word (codes "table")
+  ts ← tables
+  word (codes "into")
+  c ← one collection_of
+  at ← asof
+  ending (ts, c, at)
+
+abbrev pub restore_named : List ℕ → Src → List ℕ → Option Time → Form (List ℕ × Src × List ℕ × Option Time × Option (List ℕ))
+restore_named d s c at = do
+  new ← restore_options
+  ending (d, s, c, at, new)
+
+abbrev pub restore_at : List ℕ → Src → List ℕ → Form (List ℕ × Src × List ℕ × Option Time × Option (List ℕ))
+restore_at d s c = do
+  at ← asof
+  restore_named d s c at
+
+-- RESTORE DATABASE name FROM src IN coll [AS OF SYSTEM TIME time] [WITH options]
+unfoldable pub restore_database : Form (List ℕ × Src × List ℕ × Option Time × Option (List ℕ))
+restore_database = do
+  word (codes "restore")
+  word (codes "database")
+  d ← name
+  word (codes "from")
+  s ← source_in
+  restore_at d s.0 s.1
+
+abbrev pub forget_to : Src → List ℕ → Time → Form (Src × List ℕ × Time × Time)
+forget_to s c start = do
+  word (codes "to")
+  end ← one time_of
+  ending (s, c, start, end)
+
+abbrev pub forget_layer : Src → List ℕ → Form (Src × List ℕ × Time × Time)
+forget_layer s c = do
+  word (codes "layer")
+  start ← one time_of
+  forget_to s c start
+
+-- FORGET BACKUP FROM src IN coll LAYER time TO time
+unfoldable pub forget : Form (Src × List ℕ × Time × Time)
+forget = do
+  word (codes "forget")
+  word (codes "backup")
+  word (codes "from")
+  s ← source_in
+  forget_layer s.0 s.1
+
+-- SHOW BACKUPS IN coll
+unfoldable pub show_backups : Form (List ℕ)
+show_backups = do
+  word (codes "show")
+  word (codes "backups")
+  word (codes "in")
+  c ← one collection_of
+  ending c
+
 -- ---- families of commands
 
 unfoldable pub schema_command : Form Command
@@ -178,7 +253,15 @@ row_command =
     or select making (λ x. Select x.0 x.1)
     or gc making (λ x. Gc x.0 x.1)
 
+unfoldable pub layer_command : Form Command
+layer_command =
+    backup_database making (λ x. BackupDatabase x.0 x.1 x.2)
+    or backup_tables making (λ x. BackupTables x.0 x.1 x.2)
+    or restore_database making (λ x. RestoreDatabase x.0 x.1 x.2 x.3 x.4)
+    or forget making (λ x. Forget x.0 x.1 x.2 x.3)
+    or show_backups making ShowBackups
+
 -- the first command names the cluster, and no other does
 unfoldable pub command : Bool → Form Command
 command true = cluster making Cluster
-command false = tick making Tick or schema_command or alter_command or row_command
+command false = tick making Tick or schema_command or alter_command or row_command or layer_command

@@ -1,6 +1,7 @@
 //! Commands.
 use mvcc_keys::{Hlc, Items};
 use row_codec::{Kind, Row};
+use script_grammar::Src;
 use table_descriptors::{KeyNames, Name};
 
 /// The database and the name of a table.
@@ -66,5 +67,31 @@ pub enum Command {
     Gc {
         table: Tbl,
         before: Hlc,
+    },
+    BackupDatabase {
+        database: Name,
+        collection: Name,
+        at: Option<Hlc>,
+    },
+    BackupTables {
+        tables: Items<Tbl>,
+        collection: Name,
+        at: Option<Hlc>,
+    },
+    RestoreDatabase {
+        database: Name,
+        source: Src,
+        collection: Name,
+        at: Option<Hlc>,
+        new_name: Option<Name>,
+    },
+    Forget {
+        source: Src,
+        collection: Name,
+        start: Hlc,
+        end: Hlc,
+    },
+    ShowBackups {
+        collection: Name,
     },
 }

@@ -2,8 +2,9 @@
 ghost use Rattle.std.specs.Prelude.{◌≡◌, []};
 ghost use Rattle.script_grammar.specs.Grammar.{Gives, ◌making◌};
 ghost use Rattle.command_lang.specs.declared.command.Command.TheVariants.{Cluster, Tick, CreateDatabase, CreateTable, AddColumn, DropColumn, RenameColumn, RenameTable, DropTable, Upsert, Delete, DeleteRange, Select, Gc};
-ghost use Rattle.command_lang.specs.Forms.{cluster, tick, create_database, create_table, drop_table, add_column, drop_column, rename_column, rename_table, upsert, delete, delete_range, select, gc, schema_command, alter_command, row_command, command};
+ghost use Rattle.command_lang.specs.Forms.{cluster, tick, create_database, create_table, drop_table, add_column, drop_column, rename_column, rename_table, upsert, delete, delete_range, select, gc, schema_command, alter_command, row_command, layer_command, command};
 
+use crate::layer_forms::layer_command;
 use crate::{Command, Tbl};
 use mvcc_keys::{Hlc, Items};
 use row_codec::{Kind, Row};
@@ -337,5 +338,6 @@ pub(crate) fn command(alloc: Global, first: bool, tokens: &[Token]) -> Result<Co
     }
     let found = farthest(tick_command(tokens), schema_command(alloc, tokens));
     let found = farthest(found, alter_command(alloc, tokens));
-    farthest(found, row_command(alloc, tokens))
+    let found = farthest(found, row_command(alloc, tokens));
+    farthest(found, layer_command(alloc, tokens))
 }

@@ -5,12 +5,16 @@ mod command;
 mod faults;
 mod forms;
 mod laws;
+mod layer_forms;
 mod reading;
 
 pub use command::{Command, Tbl};
 pub use faults::LineFault;
 pub use laws::{forms_are_exact, readings_are_exact};
 pub use reading::parse_line;
+pub use script_grammar::Src;
 
+#[cfg(test)]
+mod layer_tests;
 #[cfg(test)]
 mod tests;

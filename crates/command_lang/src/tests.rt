@@ -4,7 +4,7 @@ use mvcc_keys::Hlc;
 use row_codec::{Datum, Kind, Row};
 use std::alloc::Global;
 
-const COMMAND: usize = 0;
+pub(crate) const COMMAND: usize = 0;
 
 const SKIPPED: usize = 99999;
 
@@ -21,7 +21,7 @@ fn column(rt: &HostRuntime, line: &[u8], first: bool) -> usize {
 }
 
 /// How many lines in front have the column beside them.
-fn right(rt: &HostRuntime, cases: &[(&[u8], usize)], first: bool) -> usize {
+pub(crate) fn right(rt: &HostRuntime, cases: &[(&[u8], usize)], first: bool) -> usize {
     cases
         .iter()
         .take_while(|case| column(rt, case.0, first) == case.1)
@@ -527,7 +527,7 @@ fn tables(rt: HostRuntime) {
     }
 }
 
-fn is_table(table: &Tbl, database: &str, name: &str) -> bool {
+pub(crate) fn is_table(table: &Tbl, database: &str, name: &str) -> bool {
     table.0.as_str() == database && table.1.as_str() == name
 }
 

@@ -1,12 +1,11 @@
 -- The law of finality: what a layer without history has of its tables is the same when they are longer.
-use Rattle.std.proofs.Common.{◌≡◌, ◌≢◌, ◌⊎◌, inl, inr, ⊎_elim, ℕ, zero, suc, ◌+◌, ◌-◌, ◌<◌, ◌≤◌, Bool, true, false, ◌&&◌, ◌||◌, ◌==◌, cond, nat_lt, List, [], ◌∷◌, ◌++◌, map, length, Some, None, refl, sym, ap, subst, ◌∙◌, arith, append_assoc}
+use Rattle.std.proofs.Common.{◌≡◌, ◌≢◌, ◌⊎◌, inl, inr, ⊎_elim, ℕ, zero, suc, ◌+◌, ◌-◌, ◌<◌, ◌≤◌, Bool, true, false, ◌&&◌, ◌||◌, ◌==◌, nat_lt, List, [], ◌∷◌, ◌++◌, map, length, Some, None, refl, sym, ap, subst, ◌∙◌, arith, append_assoc}
 use Rattle.std.specs.Prelude.{Option, option_map, option_to_list, slice_get, unwrap_or, filter, reverse, if◌then◌else◌}
 use Rattle.std.specs.List.{find, list_any, range_with_len, AllByRecursion}
 use Rattle.std.specs.Str.{bytes_eq}
 use Rattle.mvcc_keys.specs.declared.entries.Entry.{Entry}
 use Rattle.layer_manifest.specs.declared.manifest.TablePart.{TablePart}
 use Rattle.layer_model.specs.Layers as stored
-use Rattle.std.proofs.lemmas.Bool.{cases_Bool}
 use Rattle.std.proofs.lemmas.Bool.Decides.{nat_tests}
 use Rattle.std.proofs.lemmas.List.{append-nil, reverse-append}
 use Rattle.std.proofs.lemmas.List.Elements.{filter-append}
@@ -31,15 +30,14 @@ use Rattle.span_export.specs.declared.plan.Plan.{Plan}
 use Rattle.span_export.specs.Plans.{plan_entries}
 use Rattle.span_export.specs.Pieces.{is_seen}
 use Rattle.span_export.proofs.Added.{others-unseen}
-use Rattle.introduced_spans.specs.declared.plans.LayerPlan.{LayerPlan}
 use Rattle.introduced_spans.specs.declared.plans.Span.{Span}
 use Rattle.introduced_spans.specs.declared.plans.TablePlan.{TablePlan}
 use Rattle.introduced_spans.specs.Publicity.{is_public, public_at, begins, with_before, dates_where, becomes_public_in}
-use Rattle.introduced_spans.specs.Spans.{descriptors_of, table_ids, is_in_scope, scope_ids, is_introduced, is_member, is_member_over, members_of, plan_by, protected_by, table_plan, plan_over}
+use Rattle.introduced_spans.specs.Spans.{descriptors_of, table_ids, is_in_scope, scope_ids, is_introduced, is_member, members_of, plan_by, protected_by, table_plan, plan_over}
 use Rattle.introduced_spans.proofs.Lists.{range-all}
-use Rattle.layer_objects.specs.Past.{AreBegun, IsLonger, KeepsPast, LayersAreFinal}
-use Rattle.backup_job.specs.Contents.{bare_manifest, chunk_size, cut, in_a_row, layer_descriptors, layer_of, part_of, pieces_of, with_each, with_tables}
-use Rattle.layer_objects.specs.Objects.{by_id, covers, described, kinds_of, name_of, objects_of, plan_of, rows_of, table_facts, table_kinds}
+use Rattle.layer_objects.specs.Past.{AreBegun, KeepsPast, LayersAreFinal}
+use Rattle.backup_job.specs.Contents.{chunk_size, cut, in_a_row, layer_of, part_of, pieces_of, with_each}
+use Rattle.layer_objects.specs.Objects.{covers, described, kinds_of, name_of, objects_of, plan_of, rows_of, table_kinds}
 
 -- ---- lists
 
@@ -130,7 +128,7 @@ has-append : {X : Type 0} (x : X) (xs ys : List X) → Has x (xs ++ ys) → Has 
 has-append x [] ys has = inr has
 has-append x (y ∷ xs) ys has = ⊎_elim (λ is. inl (inl is)) (λ more. ⊎_elim (λ h. inl (inr h)) (λ h. inr h) (has-append x xs ys more)) has
 
-reverse-has : {X : Type 0} (xs : List X) (x : X) → Has x (reverse xs) → Has x xs
+pub reverse-has : {X : Type 0} (xs : List X) (x : X) → Has x (reverse xs) → Has x xs
 reverse-has [] x has = has
 reverse-has (y ∷ ys) x has = ⊎_elim (λ front. inr (reverse-has ys x front)) (λ last. ⊎_elim (λ is. inl is) (λ no. absurd no) last)
     (has-append x (reverse ys) (y ∷ []) (subst (λ (zs : List _). Has x zs) (reverse-append (y ∷ []) ys) has))
@@ -214,7 +212,7 @@ plan-plain false s ds es = refl
 
 -- ---- longer tables
 
-abbrev no-table : Table
+abbrev pub no-table : Table
 no-table = record { id = 0; facts = []; descriptors = []; threshold = zero_time }
 
 module _ (t : Time) (old new : List Table) (begun : AreBegun old) (past : KeepsPast t old new) (e : Time) (le : time_le e t ≡ true) where

@@ -1,1 +1,3 @@
 pub mod Final
+pub mod Sizes
+pub mod Writable

@@ -1,6 +1,6 @@
 -- The objects of a layer, by its record and the tables of its cluster.
-use Rattle.std.specs.Prelude.{◌≡◌, ◌≢◌, ℕ, ◌-◌, Bool, true, false, nat_lt, List, [], ◌∷◌, map, length, slice_get, Option, Some, None, option_map, unwrap_or, if◌then◌else◌}
-use Rattle.mvcc_keys.specs.Times.{Time, zero_time, time_le}
+use Rattle.std.specs.Prelude.{ℕ, ◌-◌, nat_lt, List, [], ◌∷◌, map, slice_get, option_map, unwrap_or, if◌then◌else◌}
+use Rattle.mvcc_keys.specs.Times.{Time, zero_time}
 use Rattle.row_codec.specs.declared.rows.Kind.{Kind}
 use Rattle.table_descriptors.specs.Descriptors.{Schema, key_kinds}
 use Rattle.history_model.specs.Rows.{RowFact}

@@ -1,5 +1,5 @@
 -- What was true up to a time is kept, and then the objects of a layer that ends by it are the same.
-use Rattle.std.specs.Prelude.{◌≡◌, ◌≢◌, ℕ, true, false, List, [], ◌++◌, Option, Some, None, slice_get}
+use Rattle.std.specs.Prelude.{◌≡◌, ◌≢◌, ℕ, true, false, List, [], ◌++◌, Some, None, slice_get}
 use Rattle.mvcc_keys.specs.Times.{Time, time_le, time_lt}
 use Rattle.table_descriptors.specs.Descriptors.{Schema}
 use Rattle.fact_model.specs.Facts.{Has, date}

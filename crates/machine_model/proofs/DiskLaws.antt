@@ -1,6 +1,9 @@
--- What a ready disk leaves while no call is made of it.
-use Rattle.std.proofs.Common.{◌≡◌, inl, false, List, ℕ, Option, sym, subst, arith}
+-- What a ready disk leaves while no call is made of it, and that the layers of every machine are proper ones.
+use Rattle.std.proofs.Common.{◌≡◌, ◌≢◌, ◌⊎◌, inl, inr, ⊎_elim, ℕ, suc, ◌+◌, ◌<◌, ◌≤◌, ◌==◌, Bool, true, false, ◌&&◌, nat_lt, nat_le, List, [], ◌∷◌, ◌++◌, length, Option, Some, None, refl, sym, ap, subst, ◌∙◌, arith}
 use Rattle.std.specs.FinMap.{same_map, slice_cmp-IsAntisymmetric, nat_cmp-IsAntisymmetric}
+use Rattle.std.specs.List.{Contains}
+use Rattle.std.proofs.lemmas.Bool.{cases_Bool}
+use Rattle.std.proofs.lemmas.Bool.Decides.{nat_tests}
 use Rattle.std.proofs.lemmas.Cmp.{nat_list_cmp_total}
 use Rattle.outside_world.specs.Disk.{View, IsImage, IsKnown}
 use Rattle.outside_world.specs.Moments.{LeavesOnly, InEachImage}
@@ -12,13 +15,13 @@ use Rattle.machine_model.specs.Disks.{IsReady, StandsUntil}
 pub settled_image : (v : View) → ((n : List ℕ) → v.touched n ≡ false) → (image : Objects) → IsImage v image → image ≡ v.objects
 settled_image v settled image is = same_map nat_list_cmp_total (slice_cmp-IsAntisymmetric nat_cmp-IsAntisymmetric) image v.objects (λ n. is.same n (settled n))
 
-pub ready_images : (end : Option Machine) (v : View) → IsReady end v → InEachImage v (StandsUntil end)
-ready_images end v ready image is = subst (StandsUntil end) (sym (settled_image v ready.settled image is)) ready.stands
+pub ready_images : (m end : Option Machine) (v : View) → IsReady m end v → InEachImage v (StandsUntil end)
+ready_images m end v ready image is = subst (StandsUntil end) (sym (settled_image v ready.settled image is)) ready.stands
 
 -- the second premise is the disk's law `only_now`
-pub ready_leaves : (end : Option Machine) (v : View) → (IsKnown v → (image : Objects) → v.left_since v.moment image → IsImage v image) → IsReady end v → LeavesOnly v v (StandsUntil end)
-ready_leaves end v only ready = record {
+pub ready_leaves : (m end : Option Machine) (v : View) → (IsKnown v → (image : Objects) → v.left_since v.moment image → IsImage v image) → IsReady m end v → LeavesOnly v v (StandsUntil end)
+ready_leaves m end v only ready = record {
   later = omega arith;
-  each = λ image left. ready_images end v ready image (only ready.known image left);
+  each = λ image left. ready_images m end v ready image (only ready.known image left);
   before = λ t image le left. inl left;
 }

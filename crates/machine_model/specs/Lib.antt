@@ -2,6 +2,8 @@ pub mod Machine
 pub mod Refusals
 pub mod Tables
 pub mod TableRows
+pub mod Backups
+pub mod Restores
 pub mod Step
 pub mod Script
 pub mod Disks

@@ -22,12 +22,19 @@ pub record World : Type 0 where
   pub history : History
   pub layers : List Layer
 
--- the state of the cluster
+-- a job: the backup that made a layer, or a restore. Its number is its place among the jobs, from 1 on.
+pub data Job : Type 0 where
+  Backup : Layer → Job
+  Restore : Job
+
+-- The state of the cluster. Its own layers are those of its backups, without those that were forgotten. Each job is done.
 pub record Machine : Type 0 where
   pub name : List ℕ
   pub limits : Limits
   pub clock : Time
   pub history : History
+  pub layers : List Layer
+  pub jobs : List Job
 
 -- its databases and its tables without their facts
 abbrev pub catalog_of : Machine → Schemas
@@ -35,7 +42,7 @@ catalog_of m = record { databases = m.history.databases; tables = schemas_of m.h
 
 -- a cluster of this name that has done nothing
 abbrev pub empty_machine : List ℕ → Time → Limits → Machine
-empty_machine name clock limits = record { name = name; limits = limits; clock = clock; history = record { databases = []; tables = [] } }
+empty_machine name clock limits = record { name = name; limits = limits; clock = clock; history = record { databases = []; tables = [] }; layers = []; jobs = [] }
 
 -- the state after a command, and what it is answered
 pub record Stepped : Type 0 where

@@ -1,9 +1,9 @@
 -- No command changes what was true up to the clock.
-use Rattle.std.specs.Prelude.{◌≡◌, true, List}
+use Rattle.std.specs.Prelude.{◌≡◌, true, List, ◌++◌, Option, Some, None}
 use Rattle.mvcc_keys.specs.Times.{time_le}
 use Rattle.layer_objects.specs.Past.{KeepsPast}
 use Rattle.command_lang.specs.declared.command.Command.{Command}
-use Rattle.machine_model.specs.Machine.{World, Machine}
+use Rattle.machine_model.specs.Machine.{World, Job, Machine}
 use Rattle.machine_model.specs.Step.{step}
 
 -- a later state of the same cluster
@@ -12,6 +12,14 @@ pub record IsLater (old new : Machine) : Type 0 where
   pub limits : new.limits ≡ old.limits
   pub clock : time_le old.clock new.clock ≡ true
   pub tables : KeepsPast old.clock old.history.tables new.history.tables
+  pub more : List Job
+  pub jobs : new.jobs ≡ old.jobs ++ more
+
+-- the same, where there may be no cluster yet
+abbrev pub IsLaterIn : Option Machine → Option Machine → Type 0
+IsLaterIn None new = Unit {0}
+IsLaterIn (Some old) None = ⊥
+IsLaterIn (Some old) (Some new) = IsLater old new
 
 -- whatever the command, the state after it is a later one
 abbrev pub StepsAreLater : Type 0

@@ -2,10 +2,12 @@
 use Rattle.std.specs.Prelude.{List}
 use Rattle.table_descriptors.specs.declared.changes.Change.TheVariants.{Add, Remove, RenameColumn as Renamed, Rename}
 use Rattle.command_lang.specs.declared.command.Command.{Command}
-use Rattle.command_lang.specs.declared.command.Command.TheVariants.{Cluster, Tick, CreateDatabase, CreateTable, AddColumn, DropColumn, RenameColumn, RenameTable, DropTable, Upsert, Delete, DeleteRange, Select, Gc}
+use Rattle.command_lang.specs.declared.command.Command.TheVariants.{Cluster, Tick, CreateDatabase, CreateTable, AddColumn, DropColumn, RenameColumn, RenameTable, DropTable, Upsert, Delete, DeleteRange, Select, Gc, BackupDatabase, BackupTables, RestoreDatabase, Forget, ShowBackups}
 use Rattle.reply_texts.specs.declared.answers.Answer.TheVariants.{Nothing}
 use Rattle.machine_model.specs.Machine.{World, Machine, Stepped, answered}
 use Rattle.machine_model.specs.Tables.{tick, create_database, create_table, alter, drop_table}
+use Rattle.machine_model.specs.Backups.{backup_database, backup_tables, show_backups, forget}
+use Rattle.machine_model.specs.Restores.{restore_database}
 use Rattle.machine_model.specs.TableRows.{upsert, delete, delete_range, select, collect}
 
 -- one case for each command
@@ -24,3 +26,8 @@ step worlds m (Delete table keys) = delete m table keys
 step worlds m (DeleteRange table lo hi) = delete_range m table lo hi
 step worlds m (Select table at) = select m table at
 step worlds m (Gc table before) = collect m table before
+step worlds m (BackupDatabase database collection at) = backup_database m database collection at
+step worlds m (BackupTables tables collection at) = backup_tables m tables collection at
+step worlds m (RestoreDatabase database source collection at new) = restore_database m database source collection at new
+step worlds m (Forget source collection start end) = forget m source collection start end
+step worlds m (ShowBackups collection) = show_backups m collection

@@ -23,6 +23,29 @@ digest_text (Some digest) = encode_lower digest
 abbrev pub digests_text : List ℕ → Option (List ℕ) → List ℕ
 digests_text wanted found = codes " wanted=" ++ (encode_lower wanted ++ (codes " found=" ++ (digest_text found ++ codes "\n")))
 
+-- the line of a refusal by an object of the disk, and nothing for another
+abbrev pub object_refusal_text : Refusal → List ℕ
+object_refusal_text (LayerDiffers object wanted found) = codes "refused 32 LayerDiffers object=" ++ (object ++ digests_text wanted found)
+object_refusal_text (Damaged object wanted found) = codes "refused 33 Damaged object=" ++ (object ++ digests_text wanted found)
+object_refusal_text (Malformed object offset) = codes "refused 34 Malformed object=" ++ (object ++ (codes " offset=" ++ (decimal offset ++ codes "\n")))
+object_refusal_text refusal = []
+
+-- the line of a refusal of a backup, of a restore or by an object
+abbrev pub backup_refusal_text : Refusal → List ℕ
+backup_refusal_text NoSuchBackup = codes "refused 16 NoSuchBackup\n"
+backup_refusal_text (StartCollected table threshold start) = codes "refused 19 StartCollected table=" ++ (decimal table ++ (codes " threshold=" ++ (time_text threshold ++ (codes " start=" ++ (time_text start ++ codes "\n")))))
+backup_refusal_text (EndNotAfter end last) = codes "refused 20 EndNotAfter end=" ++ (time_text end ++ (codes " last=" ++ (time_text last ++ codes "\n")))
+backup_refusal_text (NotCovered first last) = codes "refused 21 NotCovered first=" ++ (time_text first ++ (codes " last=" ++ (time_text last ++ codes "\n")))
+backup_refusal_text (NeedsHistory below above) = codes "refused 22 NeedsHistory below=" ++ (time_text below ++ (codes " above=" ++ (time_text above ++ codes "\n")))
+backup_refusal_text (HistoryCollected floor) = codes "refused 23 HistoryCollected floor=" ++ (time_text floor ++ codes "\n")
+backup_refusal_text (Gap reached wants) = codes "refused 24 Gap reached=" ++ (time_text reached ++ (codes " wants=" ++ (time_text wants ++ codes "\n")))
+backup_refusal_text NothingToRestore = codes "refused 25 NothingToRestore\n"
+backup_refusal_text (MissingReference table referenced) = codes "refused 26 MissingReference table=" ++ (decimal table ++ (codes " referenced=" ++ (decimal referenced ++ codes "\n")))
+backup_refusal_text TooManyTables = codes "refused 35 TooManyTables\n"
+backup_refusal_text TooManyEvents = codes "refused 36 TooManyEvents\n"
+backup_refusal_text NoSuchLayer = codes "refused 37 NoSuchLayer\n"
+backup_refusal_text refusal = object_refusal_text refusal
+
 -- the line of a refusal: its number, its name and its fields
 abbrev pub refusal_text : Refusal → List ℕ
 refusal_text ClockFull = codes "refused 1 ClockFull\n"
@@ -39,22 +62,8 @@ refusal_text (Future now) = codes "refused 11 Future now=" ++ (time_text now ++ 
 refusal_text (Collected table threshold) = codes "refused 12 Collected table=" ++ (decimal table ++ (codes " threshold=" ++ (time_text threshold ++ codes "\n")))
 refusal_text (Referenced by) = codes "refused 14 Referenced by=" ++ (decimal by ++ codes "\n")
 refusal_text (DuplicateKey row) = codes "refused 15 DuplicateKey row=" ++ (decimal row ++ codes "\n")
-refusal_text NoSuchBackup = codes "refused 16 NoSuchBackup\n"
-refusal_text (StartCollected table threshold start) = codes "refused 19 StartCollected table=" ++ (decimal table ++ (codes " threshold=" ++ (time_text threshold ++ (codes " start=" ++ (time_text start ++ codes "\n")))))
-refusal_text (EndNotAfter end last) = codes "refused 20 EndNotAfter end=" ++ (time_text end ++ (codes " last=" ++ (time_text last ++ codes "\n")))
-refusal_text (NotCovered first last) = codes "refused 21 NotCovered first=" ++ (time_text first ++ (codes " last=" ++ (time_text last ++ codes "\n")))
-refusal_text (NeedsHistory below above) = codes "refused 22 NeedsHistory below=" ++ (time_text below ++ (codes " above=" ++ (time_text above ++ codes "\n")))
-refusal_text (HistoryCollected floor) = codes "refused 23 HistoryCollected floor=" ++ (time_text floor ++ codes "\n")
-refusal_text (Gap reached wants) = codes "refused 24 Gap reached=" ++ (time_text reached ++ (codes " wants=" ++ (time_text wants ++ codes "\n")))
-refusal_text NothingToRestore = codes "refused 25 NothingToRestore\n"
-refusal_text (MissingReference table referenced) = codes "refused 26 MissingReference table=" ++ (decimal table ++ (codes " referenced=" ++ (decimal referenced ++ codes "\n")))
-refusal_text (LayerDiffers object wanted found) = codes "refused 32 LayerDiffers object=" ++ (object ++ digests_text wanted found)
-refusal_text (Damaged object wanted found) = codes "refused 33 Damaged object=" ++ (object ++ digests_text wanted found)
-refusal_text (Malformed object offset) = codes "refused 34 Malformed object=" ++ (object ++ (codes " offset=" ++ (decimal offset ++ codes "\n")))
-refusal_text TooManyTables = codes "refused 35 TooManyTables\n"
-refusal_text TooManyEvents = codes "refused 36 TooManyEvents\n"
-refusal_text NoSuchLayer = codes "refused 37 NoSuchLayer\n"
 refusal_text EmptyRange = codes "refused 38 EmptyRange\n"
+refusal_text refusal = backup_refusal_text refusal
 
 -- ---- rows
 

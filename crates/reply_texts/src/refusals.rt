@@ -1,6 +1,6 @@
 //! What a command is refused by, and its line.
 ghost use Rattle.std.specs.Prelude.{◌≡◌, ◌++◌, IfOk, OnErr, OnOk, string_bytes};
-ghost use Rattle.reply_texts.specs.Texts.{digest_text, digests_text, refusal_text};
+ghost use Rattle.reply_texts.specs.Texts.{backup_refusal_text, digest_text, digests_text, object_refusal_text, refusal_text};
 
 use mvcc_keys::{Hlc, Memory, Text};
 use std::alloc::{AllocError, Global};
@@ -158,6 +158,76 @@ fn digests_line(
     format!(in alloc; "{front}{object}{digests}")
 }
 
+/// The line of a refusal by an object of the disk, and nothing for another.
+fn object_refusal_line(alloc: Global, refusal: &Refusal) -> Result<String, AllocError>
+    ensures { IfOk result (λ s. string_bytes s ≡ object_refusal_text refusal.now) }
+{
+    match refusal {
+        Refusal::LayerDiffers {
+            object,
+            wanted,
+            found,
+        } => digests_line(
+            alloc,
+            "refused 32 LayerDiffers object=",
+            object,
+            wanted,
+            found,
+        ),
+        Refusal::Damaged {
+            object,
+            wanted,
+            found,
+        } => digests_line(alloc, "refused 33 Damaged object=", object, wanted, found),
+        Refusal::Malformed { object, offset } => {
+            let object = object.as_str();
+            format!(in alloc; "refused 34 Malformed object={object} offset={offset}\n")
+        }
+        _ => format!(in alloc; ""),
+    }
+}
+
+/// The line of a refusal of a backup, of a restore or by an object.
+fn backup_refusal_line(alloc: Global, refusal: &Refusal) -> Result<String, AllocError>
+    ensures { IfOk result (λ s. string_bytes s ≡ backup_refusal_text refusal.now) }
+{
+    match refusal {
+        Refusal::NoSuchBackup => format!(in alloc; "refused 16 NoSuchBackup\n"),
+        Refusal::StartCollected {
+            table,
+            threshold,
+            start,
+        } => {
+            format!(in alloc;
+                "refused 19 StartCollected table={table} threshold={threshold} start={start}\n"
+            )
+        }
+        Refusal::EndNotAfter { end, last } => {
+            format!(in alloc; "refused 20 EndNotAfter end={end} last={last}\n")
+        }
+        Refusal::NotCovered { first, last } => {
+            format!(in alloc; "refused 21 NotCovered first={first} last={last}\n")
+        }
+        Refusal::NeedsHistory { below, above } => {
+            format!(in alloc; "refused 22 NeedsHistory below={below} above={above}\n")
+        }
+        Refusal::HistoryCollected { floor } => {
+            format!(in alloc; "refused 23 HistoryCollected floor={floor}\n")
+        }
+        Refusal::Gap { reached, wants } => {
+            format!(in alloc; "refused 24 Gap reached={reached} wants={wants}\n")
+        }
+        Refusal::NothingToRestore => format!(in alloc; "refused 25 NothingToRestore\n"),
+        Refusal::MissingReference { table, referenced } => {
+            format!(in alloc; "refused 26 MissingReference table={table} referenced={referenced}\n")
+        }
+        Refusal::TooManyTables => format!(in alloc; "refused 35 TooManyTables\n"),
+        Refusal::TooManyEvents => format!(in alloc; "refused 36 TooManyEvents\n"),
+        Refusal::NoSuchLayer => format!(in alloc; "refused 37 NoSuchLayer\n"),
+        _ => object_refusal_line(alloc, refusal),
+    }
+}
+
 fn refusal_line(alloc: Global, refusal: &Refusal) -> Result<String, AllocError>
     ensures { IfOk result (λ s. string_bytes s ≡ refusal_text refusal.now) }
 {
@@ -190,59 +260,8 @@ fn refusal_line(alloc: Global, refusal: &Refusal) -> Result<String, AllocError>
         }
         Refusal::Referenced { by } => format!(in alloc; "refused 14 Referenced by={by}\n"),
         Refusal::DuplicateKey { row } => format!(in alloc; "refused 15 DuplicateKey row={row}\n"),
-        Refusal::NoSuchBackup => format!(in alloc; "refused 16 NoSuchBackup\n"),
-        Refusal::StartCollected {
-            table,
-            threshold,
-            start,
-        } => {
-            format!(in alloc;
-                "refused 19 StartCollected table={table} threshold={threshold} start={start}\n"
-            )
-        }
-        Refusal::EndNotAfter { end, last } => {
-            format!(in alloc; "refused 20 EndNotAfter end={end} last={last}\n")
-        }
-        Refusal::NotCovered { first, last } => {
-            format!(in alloc; "refused 21 NotCovered first={first} last={last}\n")
-        }
-        Refusal::NeedsHistory { below, above } => {
-            format!(in alloc; "refused 22 NeedsHistory below={below} above={above}\n")
-        }
-        Refusal::HistoryCollected { floor } => {
-            format!(in alloc; "refused 23 HistoryCollected floor={floor}\n")
-        }
-        Refusal::Gap { reached, wants } => {
-            format!(in alloc; "refused 24 Gap reached={reached} wants={wants}\n")
-        }
-        Refusal::NothingToRestore => format!(in alloc; "refused 25 NothingToRestore\n"),
-        Refusal::MissingReference { table, referenced } => {
-            format!(in alloc; "refused 26 MissingReference table={table} referenced={referenced}\n")
-        }
-        Refusal::LayerDiffers {
-            object,
-            wanted,
-            found,
-        } => digests_line(
-            alloc,
-            "refused 32 LayerDiffers object=",
-            object,
-            wanted,
-            found,
-        ),
-        Refusal::Damaged {
-            object,
-            wanted,
-            found,
-        } => digests_line(alloc, "refused 33 Damaged object=", object, wanted, found),
-        Refusal::Malformed { object, offset } => {
-            let object = object.as_str();
-            format!(in alloc; "refused 34 Malformed object={object} offset={offset}\n")
-        }
-        Refusal::TooManyTables => format!(in alloc; "refused 35 TooManyTables\n"),
-        Refusal::TooManyEvents => format!(in alloc; "refused 36 TooManyEvents\n"),
-        Refusal::NoSuchLayer => format!(in alloc; "refused 37 NoSuchLayer\n"),
         Refusal::EmptyRange => format!(in alloc; "refused 38 EmptyRange\n"),
+        _ => backup_refusal_line(alloc, refusal),
     }
 }
 

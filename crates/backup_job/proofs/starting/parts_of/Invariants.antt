@@ -1,6 +1,6 @@
 use Rattle.std.proofs.Common.{◌≡◌, ◌++◌, drop, map}
-use Rattle.backup_job.specs.Contents.{part_of}
+use Rattle.backup_job.specs.Contents.{AreProper, part_of}
 use Rattle.backup_job.proofs.starting.parts_of.Given as goal
 
 abbrev pub invariant-loop-plan : goal.invariant-loop-plan
-invariant-loop-plan l = l.parts.items ++ map (part_of l.catalog l.history l.floor l.end) (drop l.plan-index l.plans) ≡ map (part_of l.catalog l.history l.floor l.end) l.plans
+invariant-loop-plan l = AreProper l.parts.items × (l.parts.items ++ map (part_of l.catalog l.history l.floor l.end) (drop l.plan-index l.plans) ≡ map (part_of l.catalog l.history l.floor l.end) l.plans)

@@ -11,4 +11,4 @@ abbrev plan_of : Time → List TablePlan → LayerPlan
 plan_of f ts = record { floor = f; tables = ts }
 
 pub returns : goal.returns
-returns c = weaker _ (MayRun no_facts) c.start.result (λ (j : Job) is. subst (MayRun no_facts) (sym is) (bare_runs c.in_ok-layer.layer c.in_ok-database.database _ c.new-catalog.result c.in_ok-layer.ensures.cluster c.in_ok-layer.ensures.form c.in_ok-database.ensures (ap₂ plan_of c.zero.ensures (c.from_vec.ensures ∙ c.new.ensures.items)))) c.start.ensures
+returns c = weaker _ (MayRun no_facts) c.start.result (λ (j : Job) is. subst (MayRun no_facts) (sym is) (bare_runs c.in_ok-layer.layer c.in_ok-database.database _ c.new-catalog.result c.in_ok-layer.ensures.cluster c.in_ok-layer.ensures.form c.in_ok-database.ensures (ap₂ plan_of c.zero.ensures (c.from_vec.ensures ∙ c.new.ensures.items)))) c.start.ensures.job

@@ -1,5 +1,6 @@
 use Rattle.std.proofs.Common.{Ok, sym, ap, ◌∙◌, arith}
 use Rattle.outside_world.proofs.Runs.{still_known}
+use Rattle.backup_job.specs.Jobs.{Job, completed}
 use Rattle.backup_job.proofs.Whole.{as-ok, changes-on, ends, fails, goes-on, is-about}
 use Rattle.backup_job.proofs.job.BackupJob.run_to_end.Goals as goal
 
@@ -19,6 +20,10 @@ units-preserved g c =
       sym takes.about.name ∙ about.name ∙ so_far.2,
       changes-on _ _ _ _ _ so_far.2 so_far.3 changes,
       as-ok _ _ c.unit.result _ c.unit.ensures.cause.counts is ∙ so_far.4,
+      (λ h stood may.
+          let before = so_far.5 h stood may in
+          let takes = as-ok _ _ c.unit.result _ (c.unit.ensures.step h stood before.0 _ (is-about h c.units.self)) is in
+          (takes.may, takes.same ∙ before.1)),
     )
 
 pub units-smaller : goal.units-smaller
@@ -45,3 +50,15 @@ returns-in-Err-clause-disk g c h stood older s w among writing =
 
 pub returns-in-Err-clause-changes : goal.returns-in-Err-clause-changes
 returns-in-Err-clause-changes g c = changes-on _ _ _ _ _ c.units.invariant.2 c.units.invariant.3 c.unit.ensures.changes
+
+pub returns-in-Ok-Done-clause-kept : goal.returns-in-Ok-Done-clause-kept
+returns-in-Ok-Done-clause-kept g c h stood may =
+    let before = c.units.invariant.5 h stood may in
+    let last = as-ok _ _ c.unit.result _ (c.unit.ensures.step h stood before.0 _ (is-about h c.units.self)) (c.in-Ok-Done.is ∙ ap Ok c.in-Ok-Done.field-0-is) in
+    record { name = ap (λ (j : Job). j.name) last.same ∙ c.units.invariant.2; manifest = ap (completed h) last.same ∙ before.1 }
+
+pub returns-in-Ok-Done-clause-whole : goal.returns-in-Ok-Done-clause-whole
+returns-in-Ok-Done-clause-whole g c h stood may =
+    let before = c.units.invariant.5 h stood may in
+    let last = as-ok _ _ c.unit.result _ (c.unit.ensures.step h stood before.0 _ (is-about h c.units.self)) (c.in-Ok-Done.is ∙ ap Ok c.in-Ok-Done.field-0-is) in
+    last.whole ∙ before.1

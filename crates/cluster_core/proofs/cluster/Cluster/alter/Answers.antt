@@ -19,7 +19,7 @@ returns-in_err-check_public-clause-step c = rw (← c.self.view_is) (
 
 pub change-requires : goal.change-requires
 change-requires c =
-    changeable c.self.inside.changes c.self.inside.catalog c.args.name.now c.in_ok-at.at c.in_ok-table.table c.in_ok-table.d.now c.self.invariant.versions
+    changeable (c.self.inside.changes + 2) c.self.inside.catalog c.args.name.now c.in_ok-at.at c.in_ok-table.table c.in_ok-table.d.now c.self.invariant.versions
     (omega (arith, c.self.invariant.changes, c.self.invariant.steps)) c.in_ok-table.ensures.found
 
 pub returns-in_err-version-clause-step : goal.returns-in_err-version-clause-step
@@ -32,13 +32,15 @@ pub invariant_of-self-2 : goal.invariant_of-self-2
 invariant_of-self-2 c =
     let d = c.in_ok-table.d.now in
     let made = c.in_ok-version.ensures.made d (found-force c.self.inside.catalog c.args.name.now c.in_ok-at.at c.in_ok-table.table d c.in_ok-table.ensures.found) in
-    let bound = version-within c.self.inside.changes c.self.inside.catalog c.args.name.now c.in_ok-at.at c.in_ok-table.table d c.self.invariant.versions c.in_ok-table.ensures.found in
-    let within = within-described c.self.inside.changes c.self.inside.catalog (c.in_ok-table.table - 100) (changed_schema d c.args.change.now c.in_ok-at.at) c.self.invariant.versions (next_version d c.args.change.now c.in_ok-at.at c.self.inside.changes bound) in
+    let bound = version-within (c.self.inside.changes + 2) c.self.inside.catalog c.args.name.now c.in_ok-at.at c.in_ok-table.table d c.self.invariant.versions c.in_ok-table.ensures.found in
+    let within = within-described (c.self.inside.changes + 2) (c.self.inside.changes + 1 + 2) c.self.inside.catalog (c.in_ok-table.table - 100) (changed_schema d c.args.change.now c.in_ok-at.at) c.self.invariant.versions (omega arith) (next_version d c.args.change.now c.in_ok-at.at (c.self.inside.changes + 2) (c.self.inside.changes + 1 + 2) bound (omega arith)) in
     record {
       room = c.self.invariant.room;
-      versions = subst (λ s. AreWithin (c.self.inside.changes + 1) s.tables) (sym made.2) within;
+      versions = subst (λ s. AreWithin (c.self.inside.changes + 1 + 2) s.tables) (sym made.2) within;
       changes = (let less : c.self.inside.changes < c.self.inside.steps = rw (sym c.self.view_is) at c.requires in omega (arith, less));
       steps = c.self.invariant.steps;
+      few = c.self.invariant.few;
+      jobs = c.self.invariant.jobs;
     }
 
 pub returns-clause-step : goal.returns-clause-step

@@ -11,9 +11,11 @@ invariant_of-self-2 c =
     let d = first_schema s c.in_ok-at.at c.args.name.now c.args.columns.now c.args.key.now c.args.references.now in
     record {
       room = c.self.invariant.room;
-      versions = subst (λ n. AreWithin (c.self.inside.changes + 1) n.tables) (sym c.in_ok-table.ensures.made.2) (within-new c.self.inside.changes s.tables d c.self.invariant.versions (first-version s c.in_ok-at.at c.args.name.now c.args.columns.now c.args.key.now c.args.references.now));
+      versions = subst (λ n. AreWithin (c.self.inside.changes + 1 + 2) n.tables) (sym c.in_ok-table.ensures.made.2) (within-new (c.self.inside.changes + 2) (c.self.inside.changes + 1 + 2) s.tables d c.self.invariant.versions (omega arith) (rw (first-version s c.in_ok-at.at c.args.name.now c.args.columns.now c.args.key.now c.args.references.now) (omega arith)));
       changes = (let less : c.self.inside.changes < c.self.inside.steps = rw (sym c.self.view_is) at c.requires.room in omega (arith, less));
       steps = c.self.invariant.steps;
+      few = c.self.invariant.few;
+      jobs = c.self.invariant.jobs;
     }
 
 pub returns-clause-step : goal.returns-clause-step

@@ -6,6 +6,7 @@ use Rattle.reply_texts.specs.declared.answers.Answer.TheVariants.{RowsWritten}
 use Rattle.machine_model.specs.TableRows.{delete}
 use Rattle.cluster_core.proofs.Flow.{exit_by, exit_missing, exit_rows}
 use Rattle.cluster_core.proofs.Adding.{adds-missing, adds-offline, adds-fault, adds-room, adds-done, map-dated}
+use Rattle.cluster_core.proofs.Sizes.{keys-sized}
 use Rattle.cluster_core.proofs.cluster.Cluster.delete.Goals as goal
 
 pub returns-in_err-d-clause-step : goal.returns-in_err-d-clause-step
@@ -36,4 +37,4 @@ pub returns-clause-step : goal.returns-clause-step
 unfolding delete
 returns-clause-step c = rw (← c.self.view_is) (
     adds-done c.args.name.now (λ d. keys_fault d c.args.keys.now) (λ d t. map (λ k. Del k t) c.args.keys.now) (λ t. RowsWritten (length c.args.keys.now) t) _ c.delete.new.self c.in_ok-at.at c.in_ok-d.field-0-0 c.in_ok-d.d.now (length c.args.keys.now) c.in_ok-at.ensures.drawn c.in_ok-d.ensures.found c.in_ok-check_public.ensures.passed c.in_ok-check_keys.ensures (length-map c.args.keys.now _)
-    c.in_ok-check_room.ensures.passed (map-dated (λ k. Del k c.in_ok-at.at) c.in_ok-at.at (λ k. refl) c.args.keys.now) c.in_ok-delete.ensures.added)
+    c.in_ok-check_room.ensures.passed (map-dated (λ k. Del k c.in_ok-at.at) c.in_ok-at.at (λ k. refl) c.args.keys.now) (keys-sized c.in_ok-d.d.now c.in_ok-at.at c.args.keys.now c.in_ok-at.ensures.time c.in_ok-check_keys.ensures) c.in_ok-delete.ensures.added)

@@ -16,12 +16,12 @@ returns-in_err-table-clause-step c = rw (← c.self.view_is) (
 
 pub overflow_add-version : goal.overflow_add-version
 overflow_add-version c =
-    let bound = version-within c.self.inside.changes c.self.inside.catalog c.args.name.now c.in_ok-at.at c.in_ok-table.table c.in_ok-table.d.now c.self.invariant.versions c.in_ok-table.ensures.found in
+    let bound = version-within (c.self.inside.changes + 2) c.self.inside.catalog c.args.name.now c.in_ok-at.at c.in_ok-table.table c.in_ok-table.d.now c.self.invariant.versions c.in_ok-table.ensures.found in
     omega (arith, bound, c.version-version.ensures, c.self.invariant.changes, c.self.invariant.steps)
 
 pub drop_tables-requires : goal.drop_tables-requires
 drop_tables-requires c =
-    one-changeable c.self.inside.changes c.self.inside.catalog c.args.name.now c.in_ok-at.at c.in_ok-table.table c.in_ok-table.d.now c.self.invariant.versions
+    one-changeable (c.self.inside.changes + 2) c.self.inside.catalog c.args.name.now c.in_ok-at.at c.in_ok-table.table c.in_ok-table.d.now c.self.invariant.versions
     (omega (arith, c.self.invariant.changes, c.self.invariant.steps)) c.in_ok-table.ensures.found
 
 pub returns-in_err-drop_tables-clause-step : goal.returns-in_err-drop_tables-clause-step
@@ -34,13 +34,15 @@ pub invariant_of-self-2 : goal.invariant_of-self-2
 invariant_of-self-2 c =
     let d = c.in_ok-table.d.now in
     let made = c.in_ok-drop_tables.ensures.made.1 ∙ one-dropped c.self.inside.catalog c.in_ok-at.at c.in_ok-table.table d (found-force c.self.inside.catalog c.args.name.now c.in_ok-at.at c.in_ok-table.table d c.in_ok-table.ensures.found) in
-    let bound = version-within c.self.inside.changes c.self.inside.catalog c.args.name.now c.in_ok-at.at c.in_ok-table.table d c.self.invariant.versions c.in_ok-table.ensures.found in
-    let within = within-described c.self.inside.changes c.self.inside.catalog (c.in_ok-table.table - 100) (dropped d c.in_ok-at.at) c.self.invariant.versions (next_version d (Become Dropped) c.in_ok-at.at c.self.inside.changes bound) in
+    let bound = version-within (c.self.inside.changes + 2) c.self.inside.catalog c.args.name.now c.in_ok-at.at c.in_ok-table.table d c.self.invariant.versions c.in_ok-table.ensures.found in
+    let within = within-described (c.self.inside.changes + 2) (c.self.inside.changes + 1 + 2) c.self.inside.catalog (c.in_ok-table.table - 100) (dropped d c.in_ok-at.at) c.self.invariant.versions (omega arith) (next_version d (Become Dropped) c.in_ok-at.at (c.self.inside.changes + 2) (c.self.inside.changes + 1 + 2) bound (omega arith)) in
     record {
       room = c.self.invariant.room;
-      versions = subst (λ s. AreWithin (c.self.inside.changes + 1) s.tables) (sym made) within;
+      versions = subst (λ s. AreWithin (c.self.inside.changes + 1 + 2) s.tables) (sym made) within;
       changes = (let less : c.self.inside.changes < c.self.inside.steps = rw (sym c.self.view_is) at c.requires in omega (arith, less));
       steps = c.self.invariant.steps;
+      few = c.self.invariant.few;
+      jobs = c.self.invariant.jobs;
     }
 
 pub returns-clause-step : goal.returns-clause-step

@@ -1,13 +1,23 @@
-use Rattle.std.proofs.Common.{sym}
+use Rattle.std.proofs.Common.{◌+◌, Some, sym, subst}
+use Rattle.machine_model.specs.Machine.{Machine}
 use Rattle.machine_model.specs.Step.{step}
 use Rattle.machine_model.proofs.DiskLaws.{ready_leaves}
-use Rattle.cluster_core.specs.ClusterView.{view_of}
-use Rattle.cluster_core.proofs.Flow.{step-replied}
+use Rattle.cluster_core.specs.ClusterView.{ClusterState, view_of}
+use Rattle.cluster_core.specs.Standing.{MayStep, StandsFor}
+use Rattle.cluster_core.proofs.Here.{recounted}
+use Rattle.cluster_core.proofs.Replying.{may-recounted, stays-recounted, steps-recounted}
 use Rattle.cluster_core.proofs.cluster.Cluster.step.Goals as goal
 
-pub returns-clause-step : goal.returns-clause-step
-returns-clause-step g c = rw (← c.self.view_is) (λ worlds m end s ready.
-    step-replied (view_of c.self.inside) (view_of c.self-2.inside) _ c.is_err-self-inside.result c.reply-done.result (λ ws x. step ws x c.args.command.now) (rw (sym c.self-2.view_is) at c.reply-done.ensures.step) worlds m s)
+pub returns-then-self-clause-step : goal.returns-then-self-clause-step
+returns-then-self-clause-step g c = λ worlds m end may. record { replied = tt; ready = tt; leaves = ready_leaves (Some m) (Some end) (g.D.Disk.view c.args.disk.now) (g.met.D.Disk.only_now c.args.disk.now) may.ready }
 
-pub returns-clause-leaves : goal.returns-clause-leaves
-returns-clause-leaves g c = λ end ready. ready_leaves end _ (g.met.D.Disk.only_now c.args.disk.now) ready
+pub reply-done-requires-clause-stands : goal.reply-done-requires-clause-stands
+reply-done-requires-clause-stands g c = (c.requires.stands.0, recounted (view_of c.self.inside) (c.self.inside.steps + 1) c.self.inside.ended c.requires.stands.0 (subst (λ (x : ClusterState). StandsFor x c.requires.stands.0) (sym c.self.view_is) c.requires.stands.1))
+
+pub returns-clause-step : goal.returns-clause-step
+returns-clause-step g c = λ worlds m end may.
+    let first = may-recounted (view_of c.self.inside) (c.self.inside.steps + 1) c.self.inside.ended m (step worlds m c.args.command.now) end (g.D.Disk.view c.args.disk.now) (subst (λ (x : ClusterState). MayStep x m (step worlds m c.args.command.now) end (g.D.Disk.view c.args.disk.now)) (sym c.self.view_is) may) in
+    steps-recounted (view_of c.self-2.inside) c.self-2.inside.steps c.is_err-self-inside.result (step worlds m c.args.command.now) end c.reply-done.result (g.D.Disk.view c.args.disk.now) (g.D.Disk.view c.reply-done.new.disk) (rw (← c.self-2.view_is) at c.reply-done.ensures.step worlds m end first)
+
+pub returns-clause-stays : goal.returns-clause-stays
+returns-clause-stays g c = stays-recounted (view_of c.self-2.inside) c.self-2.inside.steps c.is_err-self-inside.result c.reply-done.result (rw (← c.self-2.view_is) at c.reply-done.ensures.stays)

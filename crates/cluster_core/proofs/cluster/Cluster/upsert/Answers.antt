@@ -6,6 +6,7 @@ use Rattle.reply_texts.specs.declared.answers.Answer.TheVariants.{RowsWritten}
 use Rattle.machine_model.specs.TableRows.{upsert}
 use Rattle.cluster_core.proofs.Flow.{exit_by, exit_missing, exit_rows}
 use Rattle.cluster_core.proofs.Adding.{adds-missing, adds-offline, adds-fault, adds-room, adds-done, map-dated}
+use Rattle.cluster_core.proofs.Sizes.{rows-sized}
 use Rattle.cluster_core.proofs.cluster.Cluster.upsert.Goals as goal
 
 pub returns-in_err-d-clause-step : goal.returns-in_err-d-clause-step
@@ -36,4 +37,4 @@ pub returns-clause-step : goal.returns-clause-step
 unfolding upsert
 returns-clause-step c = rw (← c.self.view_is) (
     adds-done c.args.name.now (λ d. rows_fault d c.args.rows.now) (λ d t. map (put_of d t) c.args.rows.now) (λ t. RowsWritten (length c.args.rows.now) t) _ c.upsert.new.self c.in_ok-at.at c.in_ok-d.field-0-0 c.in_ok-d.d.now (length c.args.rows.now) c.in_ok-at.ensures.drawn c.in_ok-d.ensures.found c.in_ok-check_public.ensures.passed c.in_ok-check_rows.ensures (length-map c.args.rows.now _)
-    c.in_ok-check_room.ensures.passed (map-dated (put_of c.in_ok-d.d.now c.in_ok-at.at) c.in_ok-at.at (λ row. refl) c.args.rows.now) c.in_ok-upsert.ensures.added)
+    c.in_ok-check_room.ensures.passed (map-dated (put_of c.in_ok-d.d.now c.in_ok-at.at) c.in_ok-at.at (λ row. refl) c.args.rows.now) (rows-sized c.in_ok-d.d.now c.in_ok-at.at c.args.rows.now c.in_ok-at.ensures.time c.in_ok-check_rows.ensures) c.in_ok-upsert.ensures.added)

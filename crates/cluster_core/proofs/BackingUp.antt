@@ -1,0 +1,200 @@
+-- BACKUP over a ready disk, and over every disk.
+use Rattle.std.proofs.Common.{◌≡◌, ℕ, ◌≤◌, true, List, [], ◌∷◌, ◌++◌, Option, Some, None, refl, sym, ap, subst, ◌∙◌, Result, Ok, Err, IsErrAnd}
+use Rattle.std.specs.Prelude.{IfErr, MatchResult, OnOk}
+use Rattle.std.proofs.lemmas.Result.{err_from_is_err_and}
+use Rattle.mvcc_keys.specs.Times.{Time, time_le}
+use Rattle.table_descriptors.specs.declared.scopes.Scope.{Scope}
+use Rattle.history_model.specs.Histories.{Table}
+use Rattle.outside_world.specs.Disk.{View, IsImage, IsKnown}
+use Rattle.outside_world.specs.Objects.{Objects}
+use Rattle.outside_world.specs.Moments.{ChangesOnly, LeavesOnly, NoName}
+use Rattle.outside_world.proofs.Runs.{as_read, only_less, still_known}
+use Rattle.version_store.specs.Tables.{Tables}
+use Rattle.version_store.specs.MapHolding.{KeepsAll}
+use Rattle.version_store.specs.declared.mvcc_map.MvccMap.{MvccMap}
+use Rattle.table_rows.specs.RowTables.{bytes_of}
+use Rattle.layer_manifest.specs.Manifests.{chunk_count}
+use Rattle.layer_model.specs.Layers.{Layer}
+use Rattle.layer_model.specs.Stands.{Setting}
+use Rattle.collection_dir.specs.declared.fault.DirFault.{DirFault}
+use Rattle.collection_dir.specs.declared.fault.DirFault.TheVariants as dir
+use Rattle.collection_dir.specs.Faults.{CountsAs, DirHasCause, IsDiskFault}
+use Rattle.backup_job.specs.Jobs.{Job, IsSameJob, MayRun, completed}
+use Rattle.backup_job.specs.Units.{AtLayer}
+use Rattle.backup_job.specs.Whole.{IsAmong, IsWriting, IsWritten, RunWrites}
+use Rattle.layer_objects.specs.Objects.{objects_of, rows_of}
+use Rattle.layer_objects.specs.Storable.{manifest_of, older_manifest}
+use Rattle.reply_texts.specs.declared.refusals.Refusal.{Refusal}
+use Rattle.reply_texts.specs.declared.answers.Answer.{Answer}
+use Rattle.reply_texts.specs.declared.replies.Response.{Response}
+use Rattle.machine_model.specs.Machine.{Backup, Machine, Stepped, answered, refused, unless_refused}
+use Rattle.machine_model.specs.Past.{IsLater}
+use Rattle.machine_model.specs.Backups.{backup_done, full_backup, full_layer, with_backup as with_made}
+use Rattle.machine_model.specs.Disks.{IsReady, StandsUntil, setting_of}
+use Rattle.machine_model.proofs.DiskLaws.{ready_leaves}
+use Rattle.cluster_core.specs.declared.halts.Halt.{Halt}
+use Rattle.cluster_core.specs.declared.halts.Halt.TheVariants.{Refused, Disk, Memory}
+use Rattle.cluster_core.specs.ClusterView.{ClusterState}
+use Rattle.cluster_core.specs.Halting.{halt_of_dir}
+use Rattle.cluster_core.specs.Standing.{HasBackups, HaltCounts, HaltHasCause, IsOwnName, IsReadyAfter, Keeps, MayStep, RefusedBy, Responds, Runs, StandsFor, machine_of}
+use Rattle.cluster_core.specs.Backing.{IsFullJob, StandsStill, done_of, layer_refusal, with_backup, with_job}
+use Rattle.cluster_core.proofs.Storing.{answer-is, done-ready, failed, few, is-among-layers, is-writing, made, only-disk}
+
+-- ---- commands that stop before they change anything
+
+-- a test refuses a command, or memory was wanting
+pub halted-runs : (c : ClusterState) (m : Machine) (s : Stepped) (to : Machine) (v : View) (e : Halt) (test : Option Refusal) → RefusedBy e test → ((refusal : Refusal) → test ≡ Some refusal → s ≡ refused m refusal)
+    → (IsKnown v → (image : Objects) → v.left_since v.moment image → IsImage v image) → StandsFor c m → IsReady (Some m) (Some to) v → Runs c s to (Err e) v v
+halted-runs c m s to v (Refused refusal) test by means only stands ready =
+    let is = means refusal by in
+    record {
+      responds = (subst (λ (x : Stepped). StandsFor c x.machine) (sym is) stands, ap (λ (x : Stepped). x.response) is);
+      ready = subst (λ (x : Stepped). IsReady (Some x.machine) (Some to) v) (sym is) ready;
+      leaves = ready_leaves (Some m) (Some to) v only ready;
+    }
+halted-runs c m s to v Disk test by means only stands ready = absurd by
+halted-runs c m s to v Memory test by means only stands ready = record { responds = tt; ready = tt; leaves = ready_leaves (Some m) (Some to) v only ready }
+
+pub as-returned : (P : Result Answer Halt → Type 0) (r : Result Answer Halt) (e : Halt) → IsErrAnd r (λ y. y ≡ e) → P (Err e) → P r
+as-returned P r e is p = let q = err_from_is_err_and r is in subst P (sym (q.1 ∙ ap Err q.2)) p
+
+-- the cluster is as it was
+pub halted-still : (c : ClusterState) (e : Halt) → ((m : Machine) × StandsFor c m) → StandsStill (Err e) c
+halted-still c (Refused refusal) stands = stands
+halted-still c Disk stands = tt
+halted-still c Memory stands = tt
+
+pub still-by : (c : ClusterState) (e : Halt) → ((refusal : Refusal) → e ≡ Refused refusal → (m : Machine) × StandsFor c m) → StandsStill (Err e) c
+still-by c (Refused refusal) stands = stands refusal refl
+still-by c Disk stands = tt
+still-by c Memory stands = tt
+
+-- the count of the disk's faults over a call that ended the command
+pub fault-counts : {T S : Type 0} (before now : ℕ) (r : Result T DirFault) (fault : DirFault) (e : Halt) → r ≡ Err fault → DirHasCause before now r → (CountsAs fault before now → HaltCounts e before now) → HaltHasCause {T = S} before now (Err e)
+fault-counts before now r fault e is cause counts = record { later = cause.later; capped = cause.capped; counts = counts (subst (λ (x : Result _ DirFault). MatchResult x (λ u. now ≡ before) (λ f. CountsAs f before now)) is cause.counts) }
+
+-- ---- BACKUP
+
+abbrev tested : (m : Machine) → Option Refusal → Stepped → Stepped
+tested m test change = unless_refused m test change
+
+layer-refused : (m : Machine) (collection : List ℕ) (scope : Scope) (end clock : Time) (refusal : Refusal) → layer_refusal m collection scope end ≡ Some refusal → full_backup m [] collection scope end clock ≡ refused m refusal
+layer-refused m collection scope end clock refusal is = ap (λ (test : Option Refusal). unless_refused m test (answered (with_made m clock (full_layer m collection scope end)) (backup_done (full_layer m collection scope end) (manifest_of m.history.tables (full_layer m collection scope end))))) is
+
+layer-made : (m : Machine) (collection : List ℕ) (scope : Scope) (end clock : Time) → layer_refusal m collection scope end ≡ None
+    → full_backup m [] collection scope end clock ≡ answered (with_made m clock (full_layer m collection scope end)) (backup_done (full_layer m collection scope end) (manifest_of m.history.tables (full_layer m collection scope end)))
+layer-made m collection scope end clock is = ap (λ (test : Option Refusal). unless_refused m test (answered (with_made m clock (full_layer m collection scope end)) (backup_done (full_layer m collection scope end) (manifest_of m.history.tables (full_layer m collection scope end))))) is
+
+module _ (c : ClusterState) (collection : List ℕ) (scope : Scope) (end clock : Time) where
+  abbrev means : Machine → Stepped
+  means m = full_backup m [] collection scope end clock
+
+  -- a test refuses the layer
+  pub refused-runs : (v : View) (r : Result Answer Halt) (e : Halt) → IsErrAnd r (λ y. y ≡ e) → ((tables : List Table) → Keeps c tables → RefusedBy e (layer_refusal (machine_of c tables) collection scope end))
+      → (IsKnown v → (image : Objects) → v.left_since v.moment image → IsImage v image) → (m to : Machine) → MayStep c m (means m) to v → Runs c (means m) to r v v
+  refused-runs v r e is by only m to may =
+      let s = may.stands in
+      as-returned (λ (x : Result Answer Halt). Runs c (means m) to x v v) r e is
+      (halted-runs c m (means m) to v e (layer_refusal m collection scope end) (subst (λ (x : Machine). RefusedBy e (layer_refusal x collection scope end)) (sym s.machine_is) (by s.tables s.keeps)) (layer-refused m collection scope end clock) only s may.ready)
+
+  module _ (within : time_le end clock ≡ true) (on : time_le c.clock clock ≡ true) (job : Job) (full : (tables : List Table) → Keeps c tables → IsFullJob (machine_of c tables) collection scope end job)
+      (store : MvccMap) (is : store ≡ c.store) (result : Result (Unit {0}) DirFault) (next : Job) (kept : (h : Tables) → KeepsAll store.tables.entries h → MayRun h job → IsSameJob h job next) where
+    abbrev dated : ClusterState
+    dated = record c { clock = clock }
+
+    holds : (tables : List Table) → Keeps c tables → KeepsAll store.tables.entries (bytes_of (rows_of tables))
+    holds tables k = subst (λ (s : MvccMap). KeepsAll s.tables.entries (bytes_of (rows_of tables))) (sym is) k.rows.bytes
+
+    pub may-run : (m : Machine) × StandsFor c m → (h : Tables) × KeepsAll store.tables.entries h × MayRun h job
+    may-run x = let k = x.1.keeps in (bytes_of (rows_of x.1.tables), holds x.1.tables k, (let j = full x.1.tables k in subst (MayRun (bytes_of (rows_of x.1.tables))) (sym j.is) j.may.may))
+
+    same : (tables : List Table) (k : Keeps c tables) → IsSameJob (bytes_of (rows_of tables)) job next
+    same tables k = let j = full tables k in kept (bytes_of (rows_of tables)) (holds tables k) (subst (MayRun (bytes_of (rows_of tables))) (sym j.is) j.may.may)
+
+    abbrev IsWhole : Type 0
+    IsWhole = (h : Tables) → KeepsAll store.tables.entries h → MayRun h job → next.manifest ≡ completed h job
+
+    whole-of : IsWhole → (tables : List Table) (k : Keeps c tables) → next.manifest ≡ completed (bytes_of (rows_of tables)) job
+    whole-of whole tables k = let j = full tables k in whole (bytes_of (rows_of tables)) (holds tables k) (subst (MayRun (bytes_of (rows_of tables))) (sym j.is) j.may.may)
+
+    -- ---- every disk
+
+    pub few-chunks : IsWhole → (m : Machine) × StandsFor c m → chunk_count next.manifest.tables ≤ 1000000
+    few-chunks whole x = let s = x.1 in few c s.tables s.keeps s.backups collection scope end clock within on job (full s.tables s.keeps) next (same s.tables s.keeps) (whole-of whole s.tables s.keeps)
+
+    pub done-still : IsWhole → (new : ClusterState) → new ≡ with_backup dated next → (m : Machine) × StandsFor c m → (m : Machine) × StandsFor new m
+    done-still whole new is-new x = let s = x.1 in (
+      with_made (machine_of c s.tables) clock (full_layer (machine_of c s.tables) collection scope end),
+      subst (λ (n : ClusterState). StandsFor n (with_made (machine_of c s.tables) clock (full_layer (machine_of c s.tables) collection scope end))) (sym is-new)
+          (made c s.tables s.keeps s.backups collection scope end clock within on job (full s.tables s.keeps) next (same s.tables s.keeps) (whole-of whole s.tables s.keeps)),
+    )
+
+    pub failed-still : (new : ClusterState) → new ≡ with_job dated next → (m : Machine) × StandsFor c m → (m : Machine) × StandsFor new m
+    failed-still new is-new x = let s = x.1 in let r = full_layer (machine_of c s.tables) collection scope end in (
+      record (machine_of c s.tables) { clock = clock; jobs = c.jobs ++ Backup r ∷ [] },
+      subst (λ (n : ClusterState). StandsFor n (record (machine_of c s.tables) { clock = clock; jobs = c.jobs ++ Backup r ∷ [] })) (sym is-new)
+          (failed c s.tables s.keeps s.backups collection scope end clock within on job (full s.tables s.keeps) next (same s.tables s.keeps)),
+    )
+
+    -- only names of the cluster are put
+    pub own-changes : (a b : View) → ChangesOnly (AtLayer job.name) NoName a b → (m : Machine) × StandsFor c m → ChangesOnly (IsOwnName c.name) (IsOwnName c.name) a b
+    own-changes a b changes x = let s = x.1 in let j = full s.tables s.keeps in only_less (λ n at. (job.name, at.0, ap (λ (y : Job). y.name.cluster) j.is, at.1)) (λ n never. absurd never) changes
+
+    -- ---- a ready disk
+
+    module _ (first now : View) (disk : (h : Tables) → KeepsAll store.tables.entries h → (older : Layer → List ℕ) (s : Setting) (w : Layer) → IsAmong s w → IsWriting older s w h job first → RunWrites older s w (completed h job) result next first now)
+        (counts : (t : ℕ) (image : Objects) → IsKnown now → t ≤ now.moment → IsImage now image → now.left_since t image) where
+      later-of : (m to : Machine) (may : MayStep c m (means m) to first) → IsLater (with_made (machine_of c may.stands.tables) clock (full_layer (machine_of c may.stands.tables) collection scope end)) to
+      later-of m to may =
+          let s = may.stands in
+          let is-made = layer-made (machine_of c s.tables) collection scope end clock (full s.tables s.keeps).passed in
+          subst (λ (x : Stepped). IsLater x.machine to) is-made (subst (λ (x : Machine). IsLater (means x).machine to) s.machine_is may.later)
+
+      ready-of : (m to : Machine) (may : MayStep c m (means m) to first) → IsReady (Some (machine_of c may.stands.tables)) (Some to) first
+      ready-of m to may = subst (λ (x : Machine). IsReady (Some x) (Some to) first) may.stands.machine_is may.ready
+
+      writes : (m to : Machine) (may : MayStep c m (means m) to first) → RunWrites older_manifest (setting_of to) (objects_of may.stands.tables (full_layer (machine_of c may.stands.tables) collection scope end)) (completed (bytes_of (rows_of may.stands.tables)) job) result next first now
+      writes m to may =
+          let s = may.stands in
+          disk (bytes_of (rows_of s.tables)) (holds s.tables s.keeps) older_manifest (setting_of to) _
+          (is-among-layers c s.tables s.keeps s.backups collection scope end clock within on job (full s.tables s.keeps) to first (ready-of m to may) (later-of m to may))
+          (is-writing c s.tables s.keeps s.backups collection scope end clock within on job (full s.tables s.keeps) to first (ready-of m to may) (later-of m to may))
+
+      -- the disk failed, or memory was wanting
+      pub memory-runs : (new : ClusterState) (r : Result Answer Halt) → IsErrAnd r (λ y. y ≡ Memory) → (m to : Machine) → MayStep c m (means m) to first → Runs new (means m) to r first now
+      memory-runs new r is-err m to may = as-returned (λ (x : Result Answer Halt). Runs new (means m) to x first now) r Memory is-err (record { responds = tt; ready = tt; leaves = (writes m to may).moments })
+
+      fault-ends : (new : ClusterState) (m to : Machine) (may : MayStep c m (means m) to first) (fault : DirFault) → IsDiskFault fault → Runs new (means m) to (Err (halt_of_dir fault)) first now
+      fault-ends new m to may dir.Failed ok = record { responds = tt; ready = tt; leaves = (writes m to may).moments }
+      fault-ends new m to may dir.Memory ok = record { responds = tt; ready = tt; leaves = (writes m to may).moments }
+      fault-ends new m to may (dir.Damaged object wanted found) never = absurd never
+      fault-ends new m to may (dir.Malformed object offset) never = absurd never
+      fault-ends new m to may (dir.LayerDiffers object wanted found) never = absurd never
+
+      pub fault-runs : (new : ClusterState) (fault : DirFault) (e : Halt) → result ≡ Err fault → (IsDiskFault fault → e ≡ halt_of_dir fault) → (m to : Machine) → MayStep c m (means m) to first → Runs new (means m) to (Err e) first now
+      fault-runs new fault e is-err of-disk m to may =
+          let s = may.stands in
+          let ok = (subst (λ (x : Result (Unit {0}) DirFault). IfErr x IsDiskFault) is-err
+          (only-disk c s.tables s.keeps s.backups collection scope end clock within on job (full s.tables s.keeps) to first (ready-of m to may) (later-of m to may) result next now (writes m to may))) in
+          subst (λ (y : Halt). Runs new (means m) to (Err y) first now) (sym (of-disk ok)) (fault-ends new m to may fault ok)
+
+      pub done-runs : (u : Unit {0}) → result ≡ Ok u → IsWhole → (new : ClusterState) → new ≡ with_backup dated next → (a : Answer) → a ≡ done_of next.name next.manifest → (m to : Machine) → MayStep c m (means m) to first → Runs new (means m) to (Ok a) first now
+      done-runs u is-ok whole new is-new a is-answer m to may =
+          let s = may.stands in
+          let j = full s.tables s.keeps in
+          let x = machine_of c s.tables in
+          let run = writes m to may in
+          let is-made = ap means s.machine_is ∙ layer-made x collection scope end clock j.passed in
+          let known = still_known may.ready.known run.changes.kind in
+          let stands = run.moments.each now.objects (counts first.moment now.objects known run.moments.later (as_read now)) in
+          let ready = done-ready c s.tables s.keeps s.backups collection scope end clock within on job j to first (ready-of m to may) (later-of m to may) now run.changes
+          (subst (λ (y : Result (Unit {0}) DirFault). OnOk y (IsWritten older_manifest (objects_of s.tables (full_layer x collection scope end)) now)) is-ok run.is_written) stands in
+          record {
+            responds = (
+              subst (λ (y : Stepped). StandsFor new y.machine) (sym is-made) (subst (λ (n : ClusterState). StandsFor n (with_made x clock (full_layer x collection scope end))) (sym is-new)
+                  (made c s.tables s.keeps s.backups collection scope end clock within on job j next (same s.tables s.keeps) (whole-of whole s.tables s.keeps))),
+              ap (λ (y : Stepped). y.response) is-made ∙ ap Response.Answered (sym (is-answer ∙ answer-is c s.tables s.keeps s.backups collection scope end clock within on job j next (same s.tables s.keeps) (whole-of whole s.tables s.keeps))),
+            );
+            ready = subst (λ (y : Stepped). IsReady (Some y.machine) (Some to) now) (sym is-made) ready;
+            leaves = run.moments;
+          }

@@ -1,0 +1,266 @@
+-- RESTORE DATABASE from a layer in the book, over a ready disk and over every disk.
+use Rattle.std.proofs.Common.{◌≡◌, ◌⊎◌, inl, inr, ⊎_elim, ℕ, ◌+◌, ◌≤◌, ◌<◌, ◌^◌, false, true, nat_lt, length, List, [], ◌∷◌, ◌++◌, map, Option, Some, None, option_and_then, slice_get, refl, sym, ap, ap₂, subst, subst₂, ◌∙◌, arith, Result, Ok, Err}
+use Rattle.std.specs.List.{AllByRecursion}
+use Rattle.std.proofs.lemmas.List.Sums.{sum_by-cons}
+use Rattle.std.specs.Global.{Vec}
+use Rattle.std.specs.Prelude.{IfErr, IfOk, OnOk}
+use Rattle.mvcc_keys.specs.declared.entries.Entry.{Entry}
+use Rattle.history_model.specs.Rows.{RowItem}
+use Rattle.reply_texts.specs.declared.answers.Answer.{Answer}
+use Rattle.reply_texts.specs.declared.answers.Answer.TheVariants.{RestoreDone}
+use Rattle.reply_texts.specs.declared.answers.RestoredTable.{RestoredTable}
+use Rattle.reply_texts.specs.declared.replies.Response.{Response}
+use Rattle.mvcc_keys.specs.Times.{IsTime, Time, next, time_lt}
+use Rattle.table_descriptors.specs.Descriptors.{IsProperSchema, Schema}
+use Rattle.fact_model.specs.Facts.{Has}
+use Rattle.fact_model.proofs.Members.{has-append_cases, has-map}
+use Rattle.history_model.specs.Histories.{Table, accepted, schemas_of}
+use Rattle.history_model.specs.Layers.{Layer}
+use Rattle.schema_catalog.specs.Catalogs.{Schemas, history_of, next_id}
+use Rattle.outside_world.specs.Disk.{View, IsImage, IsKnown, OnlyReads}
+use Rattle.outside_world.specs.Moments.{LeavesOnly}
+use Rattle.outside_world.specs.Objects.{Objects}
+use Rattle.outside_world.proofs.Runs.{Run, run_read, started, still_known}
+use Rattle.layer_manifest.specs.declared.manifest.Manifest.{Manifest}
+use Rattle.layer_model.specs.declared.names.LayerName.{LayerName}
+use Rattle.layer_model.specs.Layers as stored
+use Rattle.layer_objects.specs.Objects.{objects_of}
+use Rattle.layer_objects.specs.Past.{KeepsPast}
+use Rattle.id_remap.specs.Remapping.{new_ids, remap_fault, remapped_schema}
+use Rattle.id_remap.specs.declared.targets.Target.{Target}
+use Rattle.id_remap.specs.declared.targets.Target.TheVariants as target
+use Rattle.reply_texts.specs.declared.refusals.Refusal.{Refusal}
+use Rattle.reply_texts.specs.declared.refusals.Refusal.TheVariants.{NothingToRestore, TooManyEvents}
+use Rattle.machine_model.specs.Machine.{Backup, Machine, Restore, Stepped, answered, catalog_of, first_refusal, refusal_if, refused, unless_refused}
+use Rattle.machine_model.specs.Backups.{with_found}
+use Rattle.machine_model.specs.Past.{IsLater}
+use Rattle.machine_model.specs.Disks.{IsGone, IsReady, IsThere, StandsUntil}
+use Rattle.machine_model.specs.Restores.{chosen_tables, count_to_restore, last_of, nothing_refusal, refusal_of_remap, restore_chain, restore_chosen, restore_done, restored_as, restored_table, rows_to_restore, span_of, with_restored}
+use Rattle.machine_model.specs.TableRows.{room_refusal}
+use Rattle.machine_model.proofs.DiskLaws.{ready_images}
+use Rattle.cluster_core.specs.declared.halts.Halt.{Halt}
+use Rattle.cluster_core.specs.declared.halts.Halt.TheVariants.{Refused, Disk, Memory}
+use Rattle.cluster_core.specs.declared.chains.Chain.{Chain}
+use Rattle.cluster_core.specs.ClusterView.{ClusterState, record_of}
+use Rattle.cluster_core.specs.Standing.{HasBackups, Keeps, MayStep, Runs, StandsFor, machine_of}
+use Rattle.cluster_core.specs.Chains.{IsOneLayer, IsStanding}
+use Rattle.cluster_core.specs.Chains.{entries_in, stored_rows}
+use Rattle.cluster_core.specs.declared.restores.Plan.{Plan}
+use Rattle.cluster_core.specs.Restoring.{AreRowsOf, count_rows, entries_of, made_table, made_tables}
+use Rattle.cluster_core.proofs.Redone.{KeptBy, by-ids, kept-stands}
+use Rattle.cluster_core.proofs.Restored.{all-restored}
+use Rattle.cluster_core.proofs.Restorings.{count-is}
+use Rattle.cluster_core.specs.Restores.{AreTested, EndsBy, IsPlanned, refusal_of_chosen, restored_by, with_restore, room_test, shown_tables}
+use Rattle.cluster_core.proofs.Covers.{booked-full, has-place}
+use Rattle.cluster_core.proofs.Others.{final}
+use Rattle.cluster_core.proofs.Past.{chosen-later, finding-later, later-then}
+use Rattle.cluster_core.proofs.Rereading.{chosen-fresh, items-stored, over, rows-fresh, shown-chosen, standing, unraised}
+use Rattle.cluster_core.proofs.Kept.{next-later}
+
+-- ---- a disk that is only read
+
+pub ready-read : (m to : Machine) (a b : View) → OnlyReads a b → IsReady (Some m) (Some to) a → IsReady (Some m) (Some to) b
+ready-read m to a b reads ready =
+    let same = reads.content ready.known.tells in
+    record {
+      known = still_known ready.known reads.kind;
+      settled = λ n. same.touched n ∙ ready.settled n;
+      stands = subst (StandsUntil (Some to)) (sym same.objects) ready.stands;
+      kept = record {
+        there = λ r has. subst (IsThere (objects_of to.history.tables r)) (sym same.objects) (ready.kept.there r has);
+        gone = λ r has. ⊎_elim (λ own. inl own) (λ was. inr (subst (IsGone (objects_of to.history.tables r)) (sym same.objects) was)) (ready.kept.gone r has);
+      };
+    }
+
+pub leaves-read : (m to : Machine) (a b : View) → (IsKnown a → (image : Objects) → a.left_since a.moment image → IsImage a image) → OnlyReads a b → IsReady (Some m) (Some to) a → LeavesOnly a b (StandsUntil (Some to))
+leaves-read m to a b only reads ready =
+    let P = StandsUntil (Some to) in
+    let begun : Run P P a a = started ready.known (only ready.known) (ready_images (Some m) (Some to) a ready) (λ image p. p) in
+    let run : Run P P a b = run_read begun reads (λ image p. p) in
+    run.so_far
+
+-- ---- counts
+
+count-fresh : (tables : List Table) (t : Time) (chosen : List Schema) → count_to_restore (unraised tables) t chosen ≡ count_to_restore tables t chosen
+count-fresh tables t [] = refl
+count-fresh tables t (d ∷ ds) =
+    let a = sum_by-cons (λ (x : Schema). length (rows_to_restore (unraised tables) t x)) d ds in
+    let b = sum_by-cons (λ (x : Schema). length (rows_to_restore tables t x)) d ds in
+    let n = ap length (rows-fresh tables t d) in
+    let more = count-fresh tables t ds in
+    omega (arith, a, b, n, more)
+
+restored-fresh : (tables : List Table) (ids : List (ℕ × ℕ)) (to : Target) (t made published : Time) (chosen : List Schema) → map (restored_table (unraised tables) ids to t made published) chosen ≡ map (restored_table tables ids to t made published) chosen
+restored-fresh tables ids to t made published [] = refl
+restored-fresh tables ids to t made published (d ∷ ds) =
+    ap₂ (λ (y : Table) (ys : List Table). y ∷ ys) (ap (made_table made published (remapped_schema ids to made d)) (rows-fresh tables t d)) (restored-fresh tables ids to t made published ds)
+
+-- ---- jobs
+
+no-backup : (q : Layer) → Has (Backup q) (Restore ∷ []) → ⊥
+no-backup q (inl e) = cc e
+no-backup q (inr none) = none
+
+restored-ready : (m after to : Machine) (v : View) → after.layers ≡ m.layers → after.jobs ≡ m.jobs ++ Restore ∷ [] → IsReady (Some m) (Some to) v → IsReady (Some after) (Some to) v
+restored-ready m after to v layers jobs ready = record {
+  known = ready.known;
+  settled = ready.settled;
+  stands = ready.stands;
+  kept = record {
+    there = λ q has. ready.kept.there q (subst (Has q) layers has);
+    gone = λ q has. subst (λ (ls : List Layer). Has q ls ⊎ IsGone (objects_of to.history.tables q) v.objects) (sym layers)
+        (ready.kept.gone q (⊎_elim (λ old. old) (λ last. absurd (no-backup q last)) (has-append_cases (Backup q) m.jobs (Restore ∷ []) (subst (Has (Backup q)) jobs has))));
+  };
+}
+
+-- ---- the command
+
+module _ (c : ClusterState) (database new : List ℕ) (x : Chain) (layer : LayerName × Manifest) (made published : Time) (one : IsOneLayer c.book x) (last : last_of x.layers.items ≡ Some layer) where
+  abbrev means : Machine → Stepped
+  means m = restore_chain m database new x.time made published (map record_of x.layers.items)
+
+  abbrev r : Layer
+  r = record_of layer
+
+  abbrev shown : List Schema
+  shown = shown_tables database x.time layer.1
+
+  layer-is : one.layer ≡ layer
+  layer-is = let e : Some one.layer ≡ Some layer = sym (ap last_of one.layers) ∙ last in cc e
+
+  pub own : Has layer c.book.layers
+  own = subst (λ (p : LayerName × Manifest). Has p c.book.layers) layer-is one.own
+
+  pub ends : x.time ≡ r.end
+  ends = one.time ∙ ap (λ (p : LayerName × Manifest). p.0.end) layer-is
+
+  last-is : last_of (map record_of x.layers.items) ≡ Some r
+  last-is = ap (λ (ls : List (LayerName × Manifest)). last_of (map record_of ls)) one.layers ∙ ap (λ (p : LayerName × Manifest). Some (record_of p)) layer-is
+
+  means-is : (m : Machine) → means m ≡ restore_chosen m new x.time made published (map record_of x.layers.items) (chosen_tables m.history.tables database x.time r)
+  means-is m = ap (λ (o : Option Layer). with_found m NothingToRestore o (λ q. restore_chosen m new x.time made published (map record_of x.layers.items) (chosen_tables m.history.tables database x.time q))) last-is
+
+  module _ (first-is : next c.clock ≡ Some made) (second-is : next made ≡ Some published) (proper : (id : ℕ) → 100 ≤ id → id < next_id c.schemas → AllByRecursion IsProperSchema (history_of c.schemas id)) (few : 100 + length c.schemas.tables ≤ 2 ^ 32) (events : c.events ≤ 1000000) where
+    pub means-later : (tables : List Table) → IsLater (machine_of c tables) (means (machine_of c tables)).machine
+    means-later tables = let m = machine_of c tables in
+        finding-later m NothingToRestore (last_of (map record_of x.layers.items)) _ (λ q. chosen-later m new x.time made published (map record_of x.layers.items) (chosen_tables tables database x.time q) (next-later c.clock made first-is) (next-later made published second-is))
+
+    module _ (tables : List Table) (k : Keeps c tables) (b : HasBackups c tables) where
+      pub chosen-is : shown ≡ chosen_tables tables database x.time r
+      chosen-is =
+          ap (λ t. shown_tables database t layer.1) ends
+          ∙ (shown-chosen c tables k b proper few events layer own database ∙ (chosen-fresh tables database r.end r ∙ ap (λ t. chosen_tables tables database t r) (sym ends)))
+
+      catalog-is : catalog_of (machine_of c tables) ≡ c.schemas
+      catalog-is = ap (λ (ts : List (List Schema)). record c.schemas { tables = ts }) k.schemas
+
+      abbrev tests : Option Refusal
+      tests = refusal_of_chosen c.schemas new made shown (room_test c (count_to_restore (unraised tables) r.end shown) ∷ [])
+
+      -- the tests of the meaning are those of the cluster
+      pub tests-are : first_refusal (nothing_refusal (chosen_tables tables database x.time r)
+          ∷ option_and_then refusal_of_remap (remap_fault (catalog_of (machine_of c tables)) (chosen_tables tables database x.time r) (target.Database new) false made)
+          ∷ room_refusal (machine_of c tables) (count_to_restore tables x.time (chosen_tables tables database x.time r)) ∷ []) ≡ tests
+      tests-are =
+          let count : count_to_restore tables x.time (chosen_tables tables database x.time r) ≡ count_to_restore (unraised tables) r.end shown =
+          ap₂ (count_to_restore tables) ends (sym chosen-is) ∙ sym (count-fresh tables r.end shown) in
+          ap (λ (s : Schemas). refusal_of_chosen s new made (chosen_tables tables database x.time r) (room_refusal (machine_of c tables) (count_to_restore tables x.time (chosen_tables tables database x.time r)) ∷ [])) catalog-is
+          ∙ (ap₂ (λ (n e : ℕ). refusal_of_chosen c.schemas new made (chosen_tables tables database x.time r) (refusal_if (nat_lt c.most_events (e + n)) TooManyEvents ∷ [])) count k.events
+          ∙ ap (λ (ds : List Schema). refusal_of_chosen c.schemas new made ds (room_test c (count_to_restore (unraised tables) r.end shown) ∷ [])) (sym chosen-is))
+
+      abbrev change : List Schema → Stepped
+      change chosen =
+          let y = machine_of c tables in
+          answered (with_restored y new (map (restored_table tables (new_ids (catalog_of y) chosen) (target.Database new) x.time made published) chosen) published) (restore_done y (target.Database new) x.time made (map record_of x.layers.items) chosen)
+
+      pub done-by : tests ≡ None → means (machine_of c tables) ≡ change shown
+      done-by none =
+          means-is (machine_of c tables) ∙ (ap (λ (t : Option Refusal). unless_refused (machine_of c tables) t (change (chosen_tables tables database x.time r))) (tests-are ∙ none)
+          ∙ ap change (sym chosen-is))
+
+      pub refused-by : (refusal : Refusal) → tests ≡ Some refusal → means (machine_of c tables) ≡ refused (machine_of c tables) refusal
+      refused-by refusal is = means-is (machine_of c tables) ∙ ap (λ (t : Option Refusal). unless_refused (machine_of c tables) t (change (chosen_tables tables database x.time r))) (tests-are ∙ is)
+
+    module _ (first now : View) (m to : Machine) (may : MayStep c m (means m) to first) where
+      abbrev s : StandsFor c m
+      s = may.stands
+
+      later : IsLater (machine_of c s.tables) to
+      later = later-then _ _ _ (means-later s.tables) (subst (λ (y : Machine). IsLater (means y).machine to) s.machine_is may.later)
+
+      ready : IsReady (Some (machine_of c s.tables)) (Some to) first
+      ready = subst (λ (y : Machine). IsReady (Some y) (Some to) first) s.machine_is may.ready
+
+      pub stands-there : IsStanding (unraised s.tables) r layer.0 layer.1 first.objects
+      stands-there =
+          let is : objects_of to.history.tables r ≡ objects_of s.tables r = final c s.tables to.history.tables c.clock r s.keeps later.tables (booked-full c s.tables s.backups layer own) (over c s.tables s.keeps s.backups proper few events layer own) in
+          standing c s.tables s.keeps s.backups proper few events layer own first.objects (subst (λ (w : stored.Layer). IsThere w first.objects) is (ready.kept.there r (has-map record_of layer c.book.layers own)))
+
+      pub shown-is : shown ≡ chosen_tables (unraised s.tables) database r.end r
+      shown-is = chosen-is s.tables s.keeps s.backups ∙ (ap (λ t. chosen_tables s.tables database t r) ends ∙ sym (chosen-fresh s.tables database r.end r))
+
+      -- a test refuses it, the disk failed, or memory was wanting
+      pub ended-runs : (IsKnown first → (image : Objects) → first.left_since first.moment image → IsImage first image) → OnlyReads first now → (e : Halt) → EndsBy e (tests s.tables s.keeps s.backups) → Runs c (means m) to (Err e) first now
+      ended-runs only reads (Refused refusal) by =
+          let is : means m ≡ refused m refusal = subst (λ (y : Machine). means y ≡ refused y refusal) (sym s.machine_is) (refused-by s.tables s.keeps s.backups refusal by) in
+          record {
+            responds = (subst (λ (y : Stepped). StandsFor c y.machine) (sym is) s, ap (λ (y : Stepped). y.response) is);
+            ready = subst (λ (y : Stepped). IsReady (Some y.machine) (Some to) now) (sym is) (ready-read m to first now reads may.ready);
+            leaves = leaves-read m to first now only reads may.ready;
+          }
+      ended-runs only reads Disk by = record { responds = tt; ready = tt; leaves = leaves-read m to first now only reads may.ready }
+      ended-runs only reads Memory by = record { responds = tt; ready = tt; leaves = leaves-read m to first now only reads may.ready }
+
+      module _ (p : Plan) (planned : IsPlanned c.schemas new made shown p) (vs : List (Vec Entry)) (tested : AreTested shown vs) (time : IsTime made) (read : map entries_in vs ≡ map (stored_rows (unraised s.tables) r.end) shown) (room : room_test c (count_rows (entries_of vs)) ≡ None) where
+        count : count_rows (entries_of vs) ≡ count_to_restore (unraised s.tables) r.end shown
+        count = count-is (unraised s.tables) r.end shown vs read
+
+        passed : tests s.tables s.keeps s.backups ≡ None
+        passed = rw (planned.some, planned.passed, sym count, room) refl
+
+        is-done : means (machine_of c s.tables) ≡ change s.tables s.keeps s.backups shown
+        is-done = done-by s.tables s.keeps s.backups passed
+
+        abbrev fresh-items : List (List RowItem)
+        fresh-items = map (rows_to_restore (unraised s.tables) r.end) shown
+
+        rows-are : AreRowsOf made shown (entries_of vs) fresh-items
+        rows-are = items-stored made time (unraised s.tables) r stands-there.storable database r.end shown vs (λ d has. subst (Has d) shown-is has) tested read
+
+        made-are : made_tables made published p.tables.items fresh-items ≡ map (restored_table s.tables (new_ids (catalog_of (machine_of c s.tables)) shown) (target.Database new) x.time made published) shown
+        made-are =
+            let ids = new_ids c.schemas shown in
+            let goal = target.Database new in
+            ap (λ (ss : List Schema). made_tables made published ss fresh-items) planned.tables
+            ∙ (all-restored ids goal made published r.end (unraised s.tables) shown
+            ∙ (restored-fresh s.tables ids goal r.end made published shown
+            ∙ (ap (λ (t : Time). map (restored_table s.tables ids goal t made published) shown) (sym ends)
+            ∙ ap (λ (y : Schemas). map (restored_table s.tables (new_ids y shown) goal x.time made published) shown) (sym (catalog-is s.tables s.keeps s.backups)))))
+
+        answer-is : (k : ℕ) → k ≡ count_rows (entries_of vs) → restore_done (machine_of c s.tables) (target.Database new) x.time made (map record_of x.layers.items) shown ≡ restored_by c new p.ids x.time made k x.layers.items p.chosen.items
+        answer-is k k-is =
+            let rows : count_to_restore s.tables x.time shown ≡ k = ap (λ (t : Time). count_to_restore s.tables t shown) ends ∙ (sym (count-fresh s.tables r.end shown) ∙ (sym count ∙ sym k-is)) in
+            let ids : new_ids (catalog_of (machine_of c s.tables)) shown ≡ p.ids = ap (λ (y : Schemas). new_ids y shown) (catalog-is s.tables s.keeps s.backups) ∙ sym planned.ids in
+            ap₂ (λ (n : ℕ) (ts : List RestoredTable). RestoreDone (length c.jobs + 1) x.time made n (map span_of (map record_of x.layers.items)) ts) rows
+            (ap₂ (λ (is : List (ℕ × ℕ)) (ds : List Schema). map (restored_as is (target.Database new)) ds) ids (sym planned.chosen_is))
+
+        pub done-runs : (res : Result Answer Halt) (n : ClusterState) → KeptBy c n new made published p vs res → OnOk res (n ≡ with_restore c new published (count_rows (entries_of vs)) n.schemas.tables n.store)
+            → (k : ℕ) → k ≡ count_rows (entries_of vs) → IfOk res (λ a. a ≡ restored_by c new p.ids x.time made k x.layers.items p.chosen.items) → IfErr res (λ e. e ≡ Memory)
+            → (IsKnown first → (image : Objects) → first.left_since first.moment image → IsImage first image) → OnlyReads first now → Runs n (means m) to res first now
+        done-runs (Err e) n kept rest k k-is answer fault only reads = subst (λ (y : Halt). Runs n (means m) to (Err y) first now) (sym fault) (record { responds = tt; ready = tt; leaves = leaves-read m to first now only reads may.ready })
+        done-runs (Ok a) n kept rest k k-is answer fault only reads =
+            let keeps = kept s.tables shown fresh-items s.keeps (by-ids c new made published first-is second-is shown p planned vs n) planned.in_order rows-are in
+            let stands = kept-stands c new made published first-is second-is shown p planned vs n s.tables s.keeps s.backups fresh-items keeps (count_rows (entries_of vs)) rest in
+            let is : means m ≡ change s.tables s.keeps s.backups shown = ap means s.machine_is ∙ is-done in
+            let machine-is : machine_of n (s.tables ++ made_tables made published p.tables.items fresh-items) ≡ (change s.tables s.keeps s.backups shown).machine =
+            ap (λ (y : ClusterState). machine_of y (s.tables ++ made_tables made published p.tables.items fresh-items)) rest
+            ∙ ap (λ (ts : List Table). with_restored (machine_of c s.tables) new ts published) made-are in
+            let t : StandsFor n (means m).machine = subst (StandsFor n) (machine-is ∙ sym (ap (λ (y : Stepped). y.machine) is)) stands in
+            record {
+              responds = (t, ap (λ (y : Stepped). y.response) is ∙ ap Response.Answered (answer-is k k-is ∙ sym answer));
+              ready = restored-ready m (means m).machine to now
+                  (ap (λ (y : Stepped). y.machine.layers) is ∙ sym (ap (λ (y : Machine). y.layers) s.machine_is))
+                  (ap (λ (y : Stepped). y.machine.jobs) is ∙ sym (ap (λ (y : Machine). y.jobs ++ Restore ∷ []) s.machine_is))
+                  (ready-read m to first now reads may.ready);
+              leaves = leaves-read m to first now only reads may.ready;
+            }

@@ -1,0 +1,4 @@
+pub mod Renewed
+pub mod Exported
+pub mod Bounds
+pub mod Stored
