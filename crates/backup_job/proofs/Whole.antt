@@ -3,11 +3,11 @@ use Rattle.std.proofs.Common.{◌≡◌, ◌≢◌, ◌⊎◌, inl, inr, ⊎_eli
 use Rattle.std.specs.Prelude.{MatchResult, Option, Result}
 use Rattle.std.proofs.lemmas.Bool.{cases_Bool}
 use Rattle.std.proofs.lemmas.Bool.Decides.{nat_tests}
-use Rattle.outside_world.specs.Disk.{View, IsImage}
+use Rattle.outside_world.specs.Disk.{View, IsImage, IsSameContent}
 use Rattle.outside_world.specs.Moments.{ChangesOnly, LeavesOnly, NoName}
 use Rattle.outside_world.specs.Objects.{Objects, at}
 use Rattle.outside_world.proofs.Names.{name_cases}
-use Rattle.outside_world.proofs.Runs.{as_read, only_less, only_none, only_then, still_known, then_call}
+use Rattle.outside_world.proofs.Runs.{as_read, only_less, only_none, only_then, same_then, still_known, then_call}
 use Rattle.version_store.specs.Tables.{Tables}
 use Rattle.chunk_file.specs.Chunks.{chunk_bytes}
 use Rattle.layer_manifest.specs.declared.manifest.Manifest.{Manifest}
@@ -153,6 +153,11 @@ module _ (older : Layer → List ℕ) (s : Setting) (w : Layer) (among : IsAmong
       unit-changes r [] is unit = only_less at-finish (λ n no. no) unit.changes
       unit-changes r (piece ∷ more) is unit = only_less (at-chunk (written job) (some piece more is)) (λ n no. no) unit.changes
 
+      -- where the gate is open, nothing is left to do
+      unit-calm : (r : Result Progress DirFault) (pieces : List (List Entry)) → left h job ≡ pieces → UnitWrites h job pieces w r now new → IsOpen w now.objects → IsSameContent now new
+      unit-calm r [] is unit is_open = unit.same writing.known.tells is_open
+      unit-calm r (piece ∷ more) is unit is_open = unit.same writing.known.tells (open-marked (written job) (some piece more is) is_open)
+
       -- an open layer has its manifest, in either version
       has-manifest : older w ≡ manifest_code (first_version (completed h job)) → IsOpen w now.objects → IsManifestOf (completed h job) (at now.objects (name_of w part.Manifest))
       has-manifest first is_open = ⊎_elim (λ whole. inl (whole part.Manifest tt ∙ ap Some writing.about.manifest)) (λ whole. inr (whole part.Manifest tt ∙ ap Some first))
@@ -194,6 +199,11 @@ module _ (older : Layer → List ℕ) (s : Setting) (w : Layer) (among : IsAmong
       changes-then : ChangesOnly (IsPartName w) NoName first new
       changes-then = only_then way.changes (unit-changes h job now way.writing new r (left h job) refl writes)
 
+      calm-then : IsOpen w first.objects → IsSameContent first new
+      calm-then is_open =
+          let before = way.calm is_open in
+          same_then before (unit-calm h job now way.writing new r (left h job) refl writes (subst (λ (o : Objects). IsOpen w o) (sym before.objects) is_open))
+
       left-then : LeavesOnly first new (StandsInEither older s)
       left-then = then_call way.moments left-now (λ image stands. stands)
 
@@ -203,12 +213,14 @@ module _ (older : Layer → List ℕ) (s : Setting) (w : Layer) (among : IsAmong
         same = (took Running is).same ∙ way.same;
         moments = left-then;
         changes = changes-then;
+        calm = calm-then;
       }
 
       pub ends : r ≡ Ok Done → RunWrites {T = Unit {0}} older s w (completed h began) (Ok (tt {0})) next first new
       ends is = record {
         moments = left-then;
         changes = changes-then;
+        calm = calm-then;
         is_written = done-by h job now way.writing new (left h job) refl (took Done is).none (wrote (Ok Done) is);
         manifest = (took Done is).whole ∙ way.same;
         fault = λ e. tt;
@@ -218,6 +230,7 @@ module _ (older : Layer → List ℕ) (s : Setting) (w : Layer) (among : IsAmong
       fails e is = record {
         moments = left-then;
         changes = changes-then;
+        calm = calm-then;
         is_written = tt;
         manifest = tt;
         fault = λ first. faults h job now way.writing new (first ∙ ap (λ (m : Manifest). manifest_code (first_version m)) (sym way.same)) (Err e) (left h job) (wrote (Err e) is);
@@ -230,6 +243,7 @@ begins older s w h job now writing only = record {
   same = refl;
   moments = record { later = omega arith; each = λ image left. writing.stands image (only image left); before = λ t image le left. inl left };
   changes = only_none now;
+  calm = λ is_open. record { objects = refl; touched = λ n. refl; calls = refl };
 }
 
 -- ---- a layer that a job is about

@@ -1,7 +1,7 @@
 -- A job that is run to its end, over a disk of which each image stands for some layers.
 use Rattle.std.specs.Prelude.{◌≡◌, ◌≤◌, ◌<◌, ℕ, false, List, length, Result, IfErr, OnOk}
 use Rattle.std.specs.List.{Contains}
-use Rattle.outside_world.specs.Disk.{View, IsKnown}
+use Rattle.outside_world.specs.Disk.{View, IsKnown, IsSameContent}
 use Rattle.outside_world.specs.Moments.{ChangesOnly, InEachImage, IsSettled, LeavesOnly, NoName}
 use Rattle.version_store.specs.Tables.{Tables}
 use Rattle.layer_manifest.specs.declared.manifest.Manifest.{Manifest}
@@ -42,11 +42,12 @@ pub record IsWritten (older : Layer → List ℕ) (w : Layer) (now : View) : Typ
   pub is_open : IsOpen w now.objects
   pub settled : IsSettled now
 
--- What units leave: whatever they answered, a crash at any moment leaves what stands, and no other names than the layer's are touched. Once they are through, the layer is written, and
--- the job has its manifest m. Where an older manifest is the same in version 1, nothing is refused but by a fault of the disk or want of memory.
+-- What units leave: whatever they answered, a crash at any moment leaves what stands, no other names than the layer's are touched, and none where its gate was open. Once they are through,
+-- the layer is written, and the job has its manifest m. Where an older manifest is the same in version 1, nothing is refused but by a fault of the disk or want of memory.
 pub record RunWrites {T : Type 0} (older : Layer → List ℕ) (s : Setting) (w : Layer) (m : Manifest) (result : Result T DirFault) (job : Job) (first now : View) : Type 0 where
   pub moments : LeavesOnly first now (StandsInEither older s)
   pub changes : ChangesOnly (IsPartName w) NoName first now
+  pub calm : IsOpen w first.objects → IsSameContent first now
   pub is_written : OnOk result (IsWritten older w now)
   pub manifest : OnOk result (job.manifest ≡ m)
   pub fault : older w ≡ manifest_code (first_version m) → IfErr result IsDiskFault
@@ -57,3 +58,4 @@ pub record IsUnderWay (older : Layer → List ℕ) (s : Setting) (w : Layer) (h 
   pub same : completed h job ≡ completed h began
   pub moments : LeavesOnly first now (StandsInEither older s)
   pub changes : ChangesOnly (IsPartName w) NoName first now
+  pub calm : IsOpen w first.objects → IsSameContent first now

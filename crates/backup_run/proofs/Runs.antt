@@ -16,7 +16,7 @@ use Rattle.backup_run.specs.declared.stops.Ending.{Ending}
 use Rattle.backup_run.specs.declared.stops.Ending.TheVariants.{AllDone, SomeRefused, IllFormed, ReadFault, Unwritten, DiskFailed, NoMemory}
 use Rattle.backup_run.specs.Endings.{AnswersFront, Begins, EndsBy, Answers, AnswersAtEnd, IsLast, IsWhole, IsComplete, Leads, RunsScript, ending_of, code_of, CodeCause, ReadCause, WriteCause, StoreCause, StaysLow, Completes}
 use Rattle.backup_run.specs.Run.{Here, at_of, at_first, SessionAt, StandsAt, IsHere, Fed, EndedIn, Running, AtInputEnd, Ran, written_before, outcome_of_rest, outcome_of_lines}
-use Rattle.backup_run.proofs.Steps.{begins_written, begins_more, lines_begin, here, fed_nothing, fed_fed, fed_ended}
+use Rattle.backup_run.proofs.Steps.{begins_written, begins_more, met_at, here, fed_nothing, fed_fed, fed_ended}
 use Rattle.backup_run.proofs.Stepping.{leads_then, still}
 use Rattle.backup_run.proofs.Telling.{told_twice, told_nothing}
 
@@ -111,18 +111,18 @@ whole_after refused front text w o is h = record {
   well_formed = ap (λ (x : Outcome). x.malformed) is ∙ h.well_formed;
 }
 
-answers_end : (ending : Ending) (whole : List ℕ → Outcome) (read front text : List ℕ) (o : Outcome)
-    → front ≡ (whole (whole_lines read)).text → whole (read ++ []) ≡ written_before front o → AnswersAtEnd ending text o → Answers ending whole read [] (front ++ text)
-answers_end AllDone whole read front text o lines is h = (refl, whole_after false front text (whole read) o (ap whole (sym (append-nil read)) ∙ is) h)
-answers_end SomeRefused whole read front text o lines is h = (refl, whole_after true front text (whole read) o (ap whole (sym (append-nil read)) ∙ is) h)
-answers_end IllFormed whole read front text o lines is h = (ap (λ (x : Outcome). x.text) is ∙ ap (λ (t : List ℕ). front ++ t) h.0, ap (λ (x : Outcome). x.malformed) is ∙ h.1)
-answers_end ReadFault whole read front text o lines is h = absurd h
-answers_end Unwritten whole read front text o lines is h = begins_more front text (whole (read ++ [])).text o.text h (ap (λ (x : Outcome). x.text) is)
-answers_end DiskFailed whole read front text o lines is h = (
-  record { front = whole_lines read; begins = lines_begin read; text_is = ap (λ (t : List ℕ). front ++ t) h ∙ append-nil front ∙ lines },
-  begins_more front text (whole (read ++ [])).text o.text (o.text, ap (λ (t : List ℕ). t ++ o.text) (sym h)) (ap (λ (x : Outcome). x.text) is),
+answers_end : (ending : Ending) (whole : List ℕ → Outcome) (read pending front text : List ℕ) (o : Outcome)
+    → read ≡ whole_lines read ++ pending → front ≡ (whole (whole_lines read)).text → whole (read ++ []) ≡ written_before front o → AnswersAtEnd ending pending text o → Answers ending whole read [] (front ++ text)
+answers_end AllDone whole read pending front text o split lines is h = (refl, whole_after false front text (whole read) o (ap whole (sym (append-nil read)) ∙ is) h)
+answers_end SomeRefused whole read pending front text o split lines is h = (refl, whole_after true front text (whole read) o (ap whole (sym (append-nil read)) ∙ is) h)
+answers_end IllFormed whole read pending front text o split lines is h = (ap (λ (x : Outcome). x.text) is ∙ ap (λ (t : List ℕ). front ++ t) h.0, ap (λ (x : Outcome). x.malformed) is ∙ h.1)
+answers_end ReadFault whole read pending front text o split lines is h = absurd h
+answers_end Unwritten whole read pending front text o split lines is h = begins_more front text (whole (read ++ [])).text o.text h (ap (λ (x : Outcome). x.text) is)
+answers_end DiskFailed whole read pending front text o split lines is h = (
+  subst (λ (r : List ℕ). AnswersFront whole r [] (front ++ text)) (append-nil read) (met_at whole read pending [] [] (front ++ text) split tt h.1 (ap (λ (t : List ℕ). front ++ t) h.0 ∙ append-nil front ∙ lines)),
+  begins_more front text (whole (read ++ [])).text o.text (o.text, ap (λ (t : List ℕ). t ++ o.text) (sym h.0)) (ap (λ (x : Outcome). x.text) is),
 )
-answers_end NoMemory whole read front text o lines is h = begins_more front text (whole (read ++ [])).text o.text h (ap (λ (x : Outcome). x.text) is)
+answers_end NoMemory whole read pending front text o split lines is h = begins_more front text (whole (read ++ [])).text o.text h (ap (λ (x : Outcome). x.text) is)
 
 -- the input was at its end
 pub ran_ended : (l0 l1 l2 h0 h1 h2 : Option (List ℕ)) (v0 v1 v2 : View) (a b : Here) (nothing : List ℕ) (ending : Ending)
@@ -135,7 +135,7 @@ ran_ended l0 l1 l2 h0 h1 h2 v0 v1 v2 a b nothing ending r is none end e = record
   answers = λ worlds whole more left s.
       let now = last worlds whole more left s in
       subst (λ (x : List ℕ). Answers ending whole r.read x (r.fed.text ++ e.text)) (sym (only_end l2 more end left))
-      (answers_end ending whole r.read r.fed.text e.text (outcome_of_rest worlds (at_of b now.machine) []) now.at.answers (now.at.goes_on []) (e.answers worlds now.machine (here worlds b v1 whole r.read r.fed.text [] now)));
+      (answers_end ending whole r.read b.pending r.fed.text e.text (outcome_of_rest worlds (at_of b now.machine) []) now.split now.at.answers (now.at.goes_on []) (e.answers worlds now.machine (here worlds b v1 whole r.read r.fed.text [] now)));
   leads = λ worlds whole more left s.
       let now = last worlds whole more left s in
       leads_then (whole (r.read ++ more)).machine v0 v1 v2 (r.fed.leads worlds whole [] [] more s)
@@ -167,7 +167,7 @@ stands_at worlds = record { goes_on = λ more. start_is_script worlds more; answ
 -- a run begins where nothing was read and nothing written
 stands_first : (worlds : List World) (v : View) (script : List ℕ) → IsReady None (script_outcome worlds script).machine v → SessionAt worlds at_first v (script_outcome worlds) [] [] script
 unfolding at_first
-stands_first worlds v script ready = record { machine = None; stands = tt; at = stands_at worlds; ready = ready }
+stands_first worlds v script ready = record { machine = None; stands = tt; at = stands_at worlds; split = refl; ready = ready }
 
 told_left : (script read : List ℕ) (left : Option (List ℕ)) → Some script ≡ before_told read left → (rest : List ℕ) × (left ≡ Some rest) × (script ≡ read ++ rest)
 told_left script read None e = absurd cc

@@ -10,7 +10,7 @@ use Rattle.reply_texts.specs.declared.replies.Response.{Response}
 use Rattle.command_lang.specs.declared.command.Command.{Command}
 use Rattle.command_lang.specs.declared.command.Command.TheVariants.{Cluster, Tick, CreateDatabase, CreateTable, AddColumn, DropColumn, RenameColumn, RenameTable, DropTable, Upsert, Delete, DeleteRange, Select, Gc, BackupDatabase, BackupTables, RestoreDatabase, Forget, ShowBackups}
 use Rattle.machine_model.specs.Machine.{World, Machine, Stepped}
-use Rattle.machine_model.specs.Disks.{IsReady, StandsUntil}
+use Rattle.machine_model.specs.Disks.{IsDone, IsDoneIn, IsIdle, IsReady, StandsUntil}
 use Rattle.machine_model.specs.Past.{IsLater, IsLaterIn}
 use Rattle.machine_model.proofs.DiskLaws.{ready_leaves}
 use Rattle.machine_model.specs.Step.{step}
@@ -95,10 +95,14 @@ idle_cause x faults = record { later = omega arith; capped = λ le. le; failed =
 
 -- the disk stays as it was
 pub still : (m end : Option Machine) (v : View) → (IsKnown v → (image : Objects) → v.left_since v.moment image → IsImage v image) → IsReady m end v → Leads end v v
-still m end v only ready = record { leaves = ready_leaves m end v only ready; changes = only_none v }
+still m end v only ready = record { leaves = ready_leaves m end v only ready; changes = only_none v; idle = λ done. record { objects = refl; calls = refl } }
 
 pub leads_then : (end : Option Machine) (v0 v1 v2 : View) → Leads end v0 v1 → Leads end v1 v2 → Leads end v0 v2
-leads_then end v0 v1 v2 l k = record { leaves = then_call l.leaves k.leaves (λ image stands. stands); changes = only_then l.changes k.changes }
+leads_then end v0 v1 v2 l k = record {
+  leaves = then_call l.leaves k.leaves (λ image stands. stands);
+  changes = only_then l.changes k.changes;
+  idle = λ done. let a = l.idle done in let b = k.idle (subst (IsDoneIn end) (sym a.objects) done) in record { objects = b.objects ∙ a.objects; calls = b.calls ∙ a.calls };
+}
 
 -- own names are names of objects
 pub own_changes : (name : List ℕ) (v0 v1 : View) → ChangesOnly (IsOwnName name) (IsOwnName name) v0 v1 → ChangesOnly IsObjectName IsObjectName v0 v1
@@ -106,14 +110,14 @@ own_changes name v0 v1 changes = only_less (λ n own. (name, own)) (λ n own. (n
 
 -- own names are those of the end's cluster
 own_leads : (c : ClusterState) (v0 v1 : View) (command : Command) (worlds : List World) (m end : Machine) → MayStep c m (step worlds m command) end v0
-    → LeavesOnly v0 v1 (StandsUntil (Some end)) → ChangesOnly (IsOwnName c.name) (IsOwnName c.name) v0 v1 → Leads (Some end) v0 v1
-own_leads c v0 v1 command worlds m end may leaves changes =
+    → LeavesOnly v0 v1 (StandsUntil (Some end)) → (IsDone end v0.objects → IsIdle v0 v1) → ChangesOnly (IsOwnName c.name) (IsOwnName c.name) v0 v1 → Leads (Some end) v0 v1
+own_leads c v0 v1 command worlds m end may leaves idle changes =
     let same : end.name ≡ c.name = may.later.name ∙ ((steps-later worlds m command).name ∙ ap (λ (x : Machine). x.name) may.stands.machine_is) in
-    record { leaves = leaves; changes = subst (λ (name : List ℕ). ChangesOnly (IsOwnName name) (IsOwnName name) v0 v1) (sym same) changes }
+    record { leaves = leaves; idle = idle; changes = subst (λ (name : List ℕ). ChangesOnly (IsOwnName name) (IsOwnName name) v0 v1) (sym same) changes }
 
 pub step_leads : (c new : ClusterState) (v0 v1 : View) (command : Command) (result : Result Reply RunFault) → ((worlds : List World) (m end : Machine) → MayStep c m (step worlds m command) end v0 → Steps new (step worlds m command) end result v0 v1)
     → ChangesOnly (IsOwnName c.name) (IsOwnName c.name) v0 v1 → (worlds : List World) (m end : Machine) → MayStep c m (step worlds m command) end v0 → Leads (Some end) v0 v1
-step_leads c new v0 v1 command result steps changes worlds m end may = own_leads c v0 v1 command worlds m end may (steps worlds m end may).leaves changes
+step_leads c new v0 v1 command result steps changes worlds m end may = own_leads c v0 v1 command worlds m end may (steps worlds m end may).leaves (steps worlds m end may).idle changes
 
 pub known_leads : (old : ClusterState) (v0 v1 : View) (command : Command) → ((worlds : List World) (m end : Machine) → MayStep old m (step worlds m command) end v0 → Leads (Some end) v0 v1)
     → (worlds : List World) (m end : Option Machine) → MayGo (Some old) m (machine_of (command_step worlds m command)) end v0 → Leads end v0 v1

@@ -1,6 +1,6 @@
 -- One byte and one piece: what is written for them, where the run stands then, and what the disk may be left as.
 use Rattle.std.proofs.Common.{◌≡◌, ◌≢◌, inl, inr, ℕ, ◌+◌, ◌<◌, Bool, true, false, ◌||◌, ◌==◌, List, [], ◌∷◌, ◌++◌, length, take, drop, get_or, refl, sym, ap, subst, ◌∙◌, arith, append_assoc}
-use Rattle.std.specs.Prelude.{Option, if◌then◌else◌}
+use Rattle.std.specs.Prelude.{Option}
 use Rattle.std.specs.List.{list_any}
 use Rattle.std.proofs.lemmas.Bool.{cases_Bool}
 use Rattle.std.proofs.lemmas.Bool.Decides.{nat_tests}
@@ -18,7 +18,7 @@ use Rattle.machine_model.specs.Disks.{IsReady}
 use Rattle.backup_run.specs.declared.stops.Stop.{Stop}
 use Rattle.backup_run.specs.declared.stops.Stop.TheVariants.{Malformed, WriteFault, DiskFault, Memory}
 use Rattle.backup_run.specs.declared.stops.Ending.TheVariants.{Unwritten, IllFormed}
-use Rattle.backup_run.specs.Endings.{AnswersFront, Begins, EndsBy, IsComplete, IsLast, IsLastAt, IsObjectName, IsWholeAt, Leads, WritesPart, done_ending, ending_of, stop_of}
+use Rattle.backup_run.specs.Endings.{AnswersFront, Begins, EndsBy, EndsLine, IsComplete, IsLast, IsLastAt, IsLineOfDisk, IsObjectName, IsWholeAt, Leads, WritesPart, done_ending, ending_of, stop_of}
 use Rattle.backup_run.specs.Run.{At, Here, at_of, StandsAs, SessionAt, StandsAt, IsHere, Fed, EndedIn, AtInputEnd, written_before, outcome_of_rest}
 use Rattle.backup_run.proofs.Telling.{told_twice, told_nothing}
 use Rattle.backup_run.proofs.Bytes.{rest_nothing}
@@ -84,14 +84,30 @@ lines_other (x ∷ read) b other =
     let same : list_any (λ c. c == 10) (x ∷ (read ++ b ∷ [])) ≡ list_any (λ c. c == 10) (x ∷ read) = any_append (x ∷ read) (b ∷ []) ∙ ap (λ (e : Bool). list_any (λ c. c == 10) (x ∷ read) || (e || false)) f ∙ or_false (list_any (λ c. c == 10) (x ∷ read)) in
     rw (same, lines_other read b other) refl
 
--- the whole lines of bytes are a front of them
-pub lines_begin : (bs : List ℕ) → Begins (whole_lines bs) bs
-lines_begin [] = ([], refl)
-lines_begin (b ∷ bs) = by (list_any (λ c. c == 10) (b ∷ bs)) (lines_begin bs)
+-- a newline ends the line so far, and another byte goes on with it
+byte_splits : (read pending new : List ℕ) (b : ℕ) → (b ≡ 10 → new ≡ []) → (b ≢ 10 → new ≡ pending ++ b ∷ []) → read ≡ whole_lines read ++ pending → read ++ b ∷ [] ≡ whole_lines (read ++ b ∷ []) ++ new
+byte_splits read pending new b cleared longer split = elim (cases_Bool (b == 10)) [ inl is ↦ at_newline (grind (arith, nat_tests)) | inr is ↦ elsewhere (grind (arith, nat_tests)) ]
   where
-    by : (some : Bool) → Begins (whole_lines bs) bs → Begins (if some then b ∷ whole_lines bs else []) (b ∷ bs)
-    by true rest = (rest.0, ap (λ (xs : List ℕ). b ∷ xs) rest.1)
-    by false rest = (b ∷ bs, refl)
+    at_newline : b ≡ 10 → read ++ b ∷ [] ≡ whole_lines (read ++ b ∷ []) ++ new
+    at_newline is = sym (lines_newline read b is) ∙ sym (append-nil (whole_lines (read ++ b ∷ []))) ∙ ap (λ (p : List ℕ). whole_lines (read ++ b ∷ []) ++ p) (sym (cleared is))
+
+    elsewhere : b ≢ 10 → read ++ b ∷ [] ≡ whole_lines (read ++ b ∷ []) ++ new
+    elsewhere other =
+        ap (λ (r : List ℕ). r ++ b ∷ []) split ∙ append_assoc (whole_lines read) pending (b ∷ []) ∙ ap (λ (p : List ℕ). whole_lines read ++ p) (sym (longer other))
+        ∙ ap (λ (ls : List ℕ). ls ++ new) (sym (lines_other read b other))
+
+-- the disk failed at the line so far
+pub met_at : (whole : List ℕ → Outcome) (read pending rest more text : List ℕ) → read ≡ whole_lines read ++ pending → EndsLine (rest ++ more) → IsLineOfDisk pending → text ≡ (whole (whole_lines read)).text → AnswersFront whole (read ++ rest) more text
+met_at whole read pending rest more text split ends meets is = record {
+  front = whole_lines read;
+  line = pending;
+  rest = rest;
+  split = ap (λ (r : List ℕ). r ++ rest) split;
+  lines_are = ap whole_lines (sym split);
+  ends = ends;
+  meets = meets;
+  text_is = is;
+}
 
 -- ---- one byte
 
@@ -134,8 +150,8 @@ by_leads a b v0 v1 leads worlds whole read front more s =
 
 pub fed_byte : (held now : Option (List ℕ)) (v0 v1 : View) (a new : Here) (b : ℕ) (text : List ℕ) → now ≡ told_before held text
     → ((worlds : List World) (m : Option Machine) (more : List ℕ) → IsHere worlds a v0 m (b ∷ more) → BytesGo worlds a m b new v1 (outcome_of_rest worlds (at_of a m) (b ∷ more)).machine text)
-    → (b ≡ 10 → new.pending ≡ []) → (b ≢ 10 → text ≡ []) → LeadsBy a b v0 v1 → ChangesOnly IsObjectName IsObjectName v0 v1 → Fed held now v0 v1 a new (b ∷ [])
-fed_byte held now v0 v1 a new b text wrote goes cleared quiet leads changes = record {
+    → (b ≡ 10 → new.pending ≡ []) → (b ≢ 10 → new.pending ≡ a.pending ++ b ∷ []) → (b ≢ 10 → text ≡ []) → LeadsBy a b v0 v1 → ChangesOnly IsObjectName IsObjectName v0 v1 → Fed held now v0 v1 a new (b ∷ [])
+fed_byte held now v0 v1 a new b text wrote goes cleared longer quiet leads changes = record {
   text = text;
   wrote = wrote;
   stands = λ worlds whole read front more s.
@@ -144,6 +160,7 @@ fed_byte held now v0 v1 a new b text wrote goes cleared quiet leads changes = re
         machine = g.machine;
         stands = g.stands;
         at = byte_stands (at_of a s.machine) (at_of new g.machine) b text worlds whole read front g.goes_on cleared quiet s.at;
+        split = byte_splits read a.pending new.pending b cleared longer s.split;
         ready = subst (λ (bs : List ℕ). IsReady g.machine (whole bs).machine v1) (sym (append_assoc read (b ∷ []) more)) (subst (λ (o : Outcome). IsReady g.machine o.machine v1) (sym (s.at.goes_on (b ∷ more))) g.ready);
       };
   leads = by_leads a b v0 v1 leads;
@@ -197,18 +214,14 @@ ended_malformed held now v0 v1 a b text wrote last leads changes = ended_by Malf
     (λ complete worlds m more at. (last worlds m more at).1) leads changes
 
 -- a line that gave no reply: nothing was written
-pub ended_outage : (fault : Outage) (held : Option (List ℕ)) (v0 v1 : View) (a : Here) (b : ℕ) → LeadsBy a b v0 v1 → ChangesOnly IsObjectName IsObjectName v0 v1 → EndedIn held held v0 v1 a (b ∷ []) (stop_of fault)
-ended_outage outage.Failed held v0 v1 a b leads changes = ended_by DiskFault held held v0 v1 a b [] (sym (told_nothing held))
+pub ended_outage : (fault : Outage) (held : Option (List ℕ)) (v0 v1 : View) (a : Here) (b : ℕ) → (fault ≡ outage.Failed → (b ≡ 10) × IsLineOfDisk a.pending) → LeadsBy a b v0 v1 → ChangesOnly IsObjectName IsObjectName v0 v1 → EndedIn held held v0 v1 a (b ∷ []) (stop_of fault)
+ended_outage outage.Failed held v0 v1 a b meets leads changes = ended_by DiskFault held held v0 v1 a b [] (sym (told_nothing held))
     (λ worlds whole read front more s o is o_is. (
-      record {
-        front = whole_lines read;
-        begins = (let l = lines_begin read in (l.0 ++ b ∷ [], ap (λ (xs : List ℕ). xs ++ b ∷ []) l.1 ∙ append_assoc (whole_lines read) l.0 (b ∷ [])));
-        text_is = append-nil front ∙ s.at.answers;
-      },
+      met_at whole read a.pending (b ∷ []) more (front ++ []) s.split (meets refl).0 (meets refl).1 (append-nil front ∙ s.at.answers),
       begins_after front [] _ o is (o.text, refl),
     ))
     (λ no. absurd no) leads changes
-ended_outage outage.Memory held v0 v1 a b leads changes = ended_by Memory held held v0 v1 a b [] (sym (told_nothing held))
+ended_outage outage.Memory held v0 v1 a b meets leads changes = ended_by Memory held held v0 v1 a b [] (sym (told_nothing held))
     (λ worlds whole read front more s o is o_is. begins_after front [] _ o is (o.text, refl))
     (λ no. absurd no) leads changes
 
@@ -268,13 +281,22 @@ fed_ended h0 h1 h2 v0 v1 v2 a b p q stop t u = record {
   changes = only_then t.changes u.changes;
 }
 
-front_longer : (whole : List ℕ → Outcome) (read rest text : List ℕ) → AnswersFront whole read text → AnswersFront whole (read ++ rest) text
-front_longer whole read rest text a = record { front = a.front; begins = (a.begins.0 ++ rest, ap (λ (r : List ℕ). r ++ rest) a.begins.1 ∙ append_assoc a.front a.begins.0 rest); text_is = a.text_is }
+front_longer : (whole : List ℕ → Outcome) (read rest more text : List ℕ) → AnswersFront whole read (rest ++ more) text → AnswersFront whole (read ++ rest) more text
+front_longer whole read rest more text a = record {
+  front = a.front;
+  line = a.line;
+  rest = a.rest ++ rest;
+  split = ap (λ (r : List ℕ). r ++ rest) a.split ∙ append_assoc (a.front ++ a.line) a.rest rest;
+  lines_are = a.lines_are;
+  ends = subst EndsLine (sym (append_assoc a.rest rest more)) a.ends;
+  meets = a.meets;
+  text_is = a.text_is;
+}
 
 ends_longer : (stop : Stop) (whole : List ℕ → Outcome) (read rest text more : List ℕ) → EndsBy stop whole read text (rest ++ more) → EndsBy stop whole (read ++ rest) text more
 ends_longer Malformed whole read rest text more h = subst (λ (bs : List ℕ). IsLast text (whole bs)) (sym (append_assoc read rest more)) h
 ends_longer WriteFault whole read rest text more h = subst (λ (bs : List ℕ). Begins text (whole bs).text) (sym (append_assoc read rest more)) h
-ends_longer DiskFault whole read rest text more h = (front_longer whole read rest text h.0, subst (λ (bs : List ℕ). Begins text (whole bs).text) (sym (append_assoc read rest more)) h.1)
+ends_longer DiskFault whole read rest text more h = (front_longer whole read rest more text h.0, subst (λ (bs : List ℕ). Begins text (whole bs).text) (sym (append_assoc read rest more)) h.1)
 ends_longer Memory whole read rest text more h = subst (λ (bs : List ℕ). Begins text (whole bs).text) (sym (append_assoc read rest more)) h
 
 -- what comes after the byte in its piece wasn't looked at
@@ -337,9 +359,9 @@ end_malformed held now v0 v1 a text wrote last leads changes = record {
   changes = changes;
 }
 
-pub end_outage : (fault : Outage) (held : Option (List ℕ)) (v0 v1 : View) (a : Here) → LeadsAtEnd a v0 v1 → ChangesOnly IsObjectName IsObjectName v0 v1 → AtInputEnd held held v0 v1 a (ending_of (stop_of fault))
-end_outage outage.Failed held v0 v1 a leads changes = record { text = []; wrote = sym (told_nothing held); answers = λ worlds m at. refl; leads = leads; ready = λ no. absurd no; changes = changes }
-end_outage outage.Memory held v0 v1 a leads changes = record { text = []; wrote = sym (told_nothing held); answers = λ worlds m at. ((outcome_of_rest worlds (at_of a m) []).text, refl); leads = leads; ready = λ no. absurd no; changes = changes }
+pub end_outage : (fault : Outage) (held : Option (List ℕ)) (v0 v1 : View) (a : Here) → (fault ≡ outage.Failed → IsLineOfDisk a.pending) → LeadsAtEnd a v0 v1 → ChangesOnly IsObjectName IsObjectName v0 v1 → AtInputEnd held held v0 v1 a (ending_of (stop_of fault))
+end_outage outage.Failed held v0 v1 a meets leads changes = record { text = []; wrote = sym (told_nothing held); answers = λ worlds m at. (refl, meets refl); leads = leads; ready = λ no. absurd no; changes = changes }
+end_outage outage.Memory held v0 v1 a meets leads changes = record { text = []; wrote = sym (told_nothing held); answers = λ worlds m at. ((outcome_of_rest worlds (at_of a m) []).text, refl); leads = leads; ready = λ no. absurd no; changes = changes }
 
 pub end_done : (held now : Option (List ℕ)) (v0 v1 : View) (a : Here) (refused : Bool) (text : List ℕ) → now ≡ told_before held text
     → ((worlds : List World) (m : Option Machine) → IsHere worlds a v0 m [] → IsWholeAt refused text (outcome_of_rest worlds (at_of a m) []) v1)

@@ -7,10 +7,13 @@ use Rattle.outside_world.specs.Disk.{View}
 use Rattle.outside_world.specs.declared.disk.DiskFault.{DiskFault as Outage}
 use Rattle.outside_world.specs.declared.disk.DiskFault.TheVariants as disk
 use Rattle.outside_world.specs.Moments.{ChangesOnly, LeavesOnly}
+use Rattle.command_lang.specs.declared.command.Command.{Command}
+use Rattle.command_lang.specs.Lines.{Reads, reading}
 use Rattle.machine_model.specs.Machine.{World, Machine}
-use Rattle.machine_model.specs.Disks.{IsReady, StandsUntil}
+use Rattle.machine_model.specs.Disks.{IsDoneIn, IsIdle, IsReady, StandsUntil}
 use Rattle.machine_model.specs.Script.{Outcome, script_outcome, whole_lines}
 use Rattle.cluster_core.specs.Standing.{IsOwnName}
+use Rattle.cluster_core.specs.Stepping.{is_of_disk}
 use Rattle.backup_run.specs.declared.stops.Ending.{Ending}
 use Rattle.backup_run.specs.declared.stops.Ending.TheVariants.{AllDone, SomeRefused, IllFormed, ReadFault, Unwritten, DiskFailed, NoMemory}
 use Rattle.backup_run.specs.declared.stops.Stop.{Stop}
@@ -28,18 +31,35 @@ WritesPart old new text = (n : ℕ) × (new ≡ told_before old (take n text))
 abbrev pub IsLast : List ℕ → Outcome → Type 0
 IsLast text o = (o.text ≡ text) × (o.malformed ≡ true)
 
--- this text is all that is answered to a front of the bytes that were read
-pub record AnswersFront (whole : List ℕ → Outcome) (read text : List ℕ) : Type 0 where
+-- a line that is read, where a command came before it, as a command that may call the disk
+pub record IsLineOfDisk (line : List ℕ) : Type 0 where
+  pub command : Command
+  pub reads : reading false line ≡ Reads command
+  pub of_disk : is_of_disk command ≡ true
+
+-- a line is at its end before these bytes: there are none, or a newline comes first
+abbrev pub EndsLine : List ℕ → Type 0
+EndsLine [] = Unit {0}
+EndsLine (b ∷ bs) = b ≡ 10
+
+-- This text is all that is answered to the first lines of the bytes that were read, where `more` are those to come. The line after them
+-- was read too, up to its end, and is a command that may call the disk.
+pub record AnswersFront (whole : List ℕ → Outcome) (read more text : List ℕ) : Type 0 where
   pub front : List ℕ
-  pub begins : Begins front read
+  pub line : List ℕ
+  pub rest : List ℕ
+  pub split : read ≡ (front ++ line) ++ rest
+  pub lines_are : whole_lines (front ++ line) ≡ front
+  pub ends : EndsLine (rest ++ more)
+  pub meets : IsLineOfDisk line
   pub text_is : text ≡ (whole front).text
 
 -- what a stop says of the bytes that were read, the text so far, and the bytes that were to come. Where the disk failed, the text is all
--- that is answered to the commands before
+-- that is answered to the commands before the one that met the fault
 abbrev pub EndsBy : Stop → (List ℕ → Outcome) → List ℕ → List ℕ → List ℕ → Type 0
 EndsBy Malformed whole read text more = IsLast text (whole (read ++ more))
 EndsBy WriteFault whole read text more = Begins text (whole (read ++ more)).text
-EndsBy DiskFault whole read text more = AnswersFront whole read text × Begins text (whole (read ++ more)).text
+EndsBy DiskFault whole read text more = AnswersFront whole read more text × Begins text (whole (read ++ more)).text
 EndsBy Memory whole read text more = Begins text (whole (read ++ more)).text
 
 -- why a line gave no reply
@@ -78,25 +98,26 @@ pub record IsWhole (refused : Bool) (text : List ℕ) (o : Outcome) : Type 0 whe
 
 -- What an ending says of the bytes that were read, of those that the source still tells, and of what was written, where `whole` is the
 -- outcome of all bytes. All done: nothing is left, and all replies were written. Ill-formed: all up to the malformed line was, with its
--- own. A read fault: the replies to the lines that were read whole. A fault of the disk: those to the commands before. Else a front.
+-- own. A read fault: the replies to the lines that were read whole. A fault of the disk: those to the commands before the one that met
+-- it. Else a front.
 abbrev pub Answers : Ending → (List ℕ → Outcome) → List ℕ → List ℕ → List ℕ → Type 0
 Answers AllDone whole read more written = (more ≡ []) × IsWhole false written (whole read)
 Answers SomeRefused whole read more written = (more ≡ []) × IsWhole true written (whole read)
 Answers IllFormed whole read more written = IsLast written (whole (read ++ more))
 Answers ReadFault whole read more written = (written ≡ (whole (whole_lines read)).text) × Begins written (whole (read ++ more)).text
 Answers Unwritten whole read more written = Begins written (whole (read ++ more)).text
-Answers DiskFailed whole read more written = AnswersFront whole read written × Begins written (whole (read ++ more)).text
+Answers DiskFailed whole read more written = AnswersFront whole read more written × Begins written (whole (read ++ more)).text
 Answers NoMemory whole read more written = Begins written (whole (read ++ more)).text
 
--- the same, where the input is at its end
-abbrev pub AnswersAtEnd : Ending → List ℕ → Outcome → Type 0
-AnswersAtEnd AllDone text o = IsWhole false text o
-AnswersAtEnd SomeRefused text o = IsWhole true text o
-AnswersAtEnd IllFormed text o = IsLast text o
-AnswersAtEnd ReadFault text o = ⊥
-AnswersAtEnd Unwritten text o = Begins text o.text
-AnswersAtEnd DiskFailed text o = text ≡ []
-AnswersAtEnd NoMemory text o = Begins text o.text
+-- the same, where the input is at its end, and these bytes of a line wait for it
+abbrev pub AnswersAtEnd : Ending → List ℕ → List ℕ → Outcome → Type 0
+AnswersAtEnd AllDone pending text o = IsWhole false text o
+AnswersAtEnd SomeRefused pending text o = IsWhole true text o
+AnswersAtEnd IllFormed pending text o = IsLast text o
+AnswersAtEnd ReadFault pending text o = ⊥
+AnswersAtEnd Unwritten pending text o = Begins text o.text
+AnswersAtEnd DiskFailed pending text o = (text ≡ []) × IsLineOfDisk pending
+AnswersAtEnd NoMemory pending text o = Begins text o.text
 
 -- the run came to the end of its script, or of what is well formed of it
 abbrev pub IsComplete : Ending → Type 0
@@ -119,10 +140,11 @@ IsOwnIn None n = ⊥
 IsOwnIn (Some m) n = IsOwnName m.name n
 
 -- What a call does to the disk, on the way to an end: whatever a crash leaves at any moment stands for it, and only objects of its cluster
--- are put and removed.
+-- are put and removed. Where all layers are done, it does nothing.
 pub record Leads (end : Option Machine) (old new : View) : Type 0 where
   pub leaves : LeavesOnly old new (StandsUntil end)
   pub changes : ChangesOnly (IsOwnIn end) (IsOwnIn end) old new
+  pub idle : IsDoneIn end old.objects → IsIdle old new
 
 -- the text is the last of this outcome, or the whole of it, and the disk holds just the layers of its machine
 abbrev pub IsLastAt : List ℕ → Outcome → View → Type 0

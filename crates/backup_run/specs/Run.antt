@@ -120,11 +120,13 @@ pub record StandsAt (whole rest : List ℕ → Outcome) (read text : List ℕ) :
   pub goes_on : (more : List ℕ) → whole (read ++ more) ≡ written_before text (rest more)
   pub answers : text ≡ (whole (whole_lines read)).text
 
--- with some machine for which its cluster stands, and the disk ready for the script, of which these bytes are still to come
+-- with some machine for which its cluster stands, and the disk ready for the script, of which these bytes are still to come; the line
+-- so far comes after the whole lines
 pub record SessionAt (worlds : List World) (h : Here) (v : View) (whole : List ℕ → Outcome) (read text more : List ℕ) : Type 0 where
   pub machine : Option Machine
   pub stands : StandsAs h.cluster machine
   pub at : StandsAt whole (outcome_of_rest worlds (at_of h machine)) read text
+  pub split : read ≡ whole_lines read ++ h.pending
   pub ready : IsReady machine (whole (read ++ more)).machine v
 
 -- a piece of the script was read and answered
@@ -154,7 +156,7 @@ pub record Running (left_old left_now held_old held_now : Option (List ℕ)) (v_
 pub record AtInputEnd (held_old held_new : Option (List ℕ)) (v_old v_new : View) (old : Here) (ending : Ending) : Type 0 where
   pub text : List ℕ
   pub wrote : held_new ≡ told_before held_old text
-  pub answers : (worlds : List World) (m : Option Machine) → IsHere worlds old v_old m [] → AnswersAtEnd ending text (outcome_of_rest worlds (at_of old m) [])
+  pub answers : (worlds : List World) (m : Option Machine) → IsHere worlds old v_old m [] → AnswersAtEnd ending old.pending text (outcome_of_rest worlds (at_of old m) [])
   pub leads : (worlds : List World) (m : Option Machine) → IsHere worlds old v_old m [] → Leads (outcome_of_rest worlds (at_of old m) []).machine v_old v_new
   pub ready : IsComplete ending → (worlds : List World) (m : Option Machine) → IsHere worlds old v_old m [] → IsReady (outcome_of_rest worlds (at_of old m) []).machine (outcome_of_rest worlds (at_of old m) []).machine v_new
   pub changes : ChangesOnly IsObjectName IsObjectName v_old v_new

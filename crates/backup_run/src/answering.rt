@@ -1,6 +1,7 @@
 //! What a line is answered.
-ghost use Rattle.std.specs.Prelude.{◌≡◌, ◌<◌, ◌≤◌, ◌+◌, true, false, is_none, IfOk, OnOk, List, [], Option, Some};
+ghost use Rattle.std.specs.Prelude.{◌≡◌, ◌<◌, ◌≤◌, ◌+◌, true, false, is_none, IfErr, IfOk, OnOk, List, [], Option, Some};
 ghost use Rattle.outside_world.specs.Disk.{DiskHasCause};
+ghost use Rattle.outside_world.specs.declared.disk.DiskFault.TheVariants as outage;
 ghost use Rattle.outside_world.specs.Moments.{ChangesOnly};
 ghost use Rattle.reply_texts.specs.declared.replies.Response.{Response};
 ghost use Rattle.machine_model.specs.Machine.{World, Machine};
@@ -8,8 +9,8 @@ ghost use Rattle.machine_model.specs.Disks.{IsReady};
 ghost use Rattle.machine_model.specs.Step.{step};
 ghost use Rattle.machine_model.specs.Script.{first_machine, after_reply, reply_before, response_of, machine_of, command_step, reading_before, machine_after, read_at, Outcome, malformed_text};
 ghost use Rattle.cluster_core.specs.Standing.{MayStep, StandsFor};
-ghost use Rattle.cluster_core.specs.Stepping.{IsReplied, IsReplyOf};
-ghost use Rattle.backup_run.specs.Endings.{IsObjectName, Leads};
+ghost use Rattle.cluster_core.specs.Stepping.{IsReplied, IsReplyOf, is_of_disk};
+ghost use Rattle.backup_run.specs.Endings.{IsLineOfDisk, IsObjectName, Leads};
 ghost use Rattle.backup_run.specs.Run.{SaysLine, HasStepped, IsAnswered, IsAt, MayGo};
 
 use cluster_core::{Cluster, Limits, RunFault};
@@ -70,6 +71,7 @@ fn stepped<D: Disk>(
     ensures changes { ChangesOnly IsObjectName IsObjectName (D.view disk.old) (D.view disk.new) }
     ensures steps { OnOk result ((cluster.new.steps ≡ cluster.old.steps + 1) × (cluster.new.ended ≡ false)) }
     ensures cause { DiskHasCause (D.view disk.old).faults (D.view disk.new).faults result }
+    ensures disk { IfErr result (λ e. e ≡ outage.Failed → is_of_disk command.now ≡ true) }
 {
     match cluster.step(command, disk) {
         Ok(reply) => Ok(reply),
@@ -97,6 +99,7 @@ fn execute<D: Disk>(
     ensures changes { ChangesOnly IsObjectName IsObjectName (D.view disk.old) (D.view disk.new) }
     ensures stepped { IfOk result (λ _. HasStepped cluster.new (number + 1)) }
     ensures cause { DiskHasCause (D.view disk.old).faults (D.view disk.new).faults result }
+    ensures disk { IfErr result (λ e. e ≡ outage.Failed → (is_none cluster.old ≡ false) × (is_of_disk command.now ≡ true)) }
 {
     match cluster {
         Some(known) => Ok(Some(stepped(known, disk, command)?)),
@@ -151,6 +154,7 @@ fn command_said<D: Disk>(
     ensures changes { ChangesOnly IsObjectName IsObjectName (D.view disk.old) (D.view disk.new) }
     ensures stepped { IfOk result (λ _. HasStepped cluster.new (number + 1)) }
     ensures cause { DiskHasCause (D.view disk.old).faults (D.view disk.new).faults result }
+    ensures disk { IfErr result (λ e. e ≡ outage.Failed → (is_none cluster.old ≡ false) × (is_of_disk command.now ≡ true)) }
 {
     match execute(alloc, cluster, disk, number, command)? {
         Some(reply) => Ok(reply_said(reply)),
@@ -195,6 +199,7 @@ pub fn line_said<D: Disk>(
     ensures changes { ChangesOnly IsObjectName IsObjectName (D.view disk.old) (D.view disk.new) }
     ensures stepped { IfOk result (λ _. HasStepped cluster.new (number + 1)) }
     ensures cause { DiskHasCause (D.view disk.old).faults (D.view disk.new).faults result }
+    ensures disk { IfErr result (λ e. e ≡ outage.Failed → IsLineOfDisk line.now) }
 {
     let first = is_first(cluster);
     match parse_line(alloc, line, first) {

@@ -1,10 +1,12 @@
 //! A run in the middle of its script.
-ghost use Rattle.std.specs.Prelude.{◌≡◌, ◌≢◌, ◌<◌, ◌+◌, ◌∷◌, [], ◌==◌, ◌||◌, not, length, ℕ, IfOk, List, Option, true, false};
+ghost use Rattle.std.specs.Prelude.{◌≡◌, ◌≢◌, ◌<◌, ◌+◌, ◌∷◌, [], ◌++◌, ◌==◌, ◌||◌, not, length, ℕ, IfErr, IfOk, List, Option, true, false};
 ghost use Rattle.outside_world.specs.Disk.{DiskHasCause};
+ghost use Rattle.outside_world.specs.declared.disk.DiskFault.TheVariants as outage;
 ghost use Rattle.outside_world.specs.Moments.{ChangesOnly};
 ghost use Rattle.machine_model.specs.Machine.{World, Machine};
 ghost use Rattle.machine_model.specs.Script.{Line, Within};
-ghost use Rattle.backup_run.specs.Endings.{IsLastAt, IsObjectName, IsWholeAt, Leads};
+ghost use Rattle.cluster_core.specs.Standing.{StandsFor};
+ghost use Rattle.backup_run.specs.Endings.{IsLastAt, IsLineOfDisk, IsObjectName, IsWholeAt, Leads};
 ghost use Rattle.backup_run.specs.Run.{at_first, at_of, IsHere, IsHereAtLines, Goes, outcome_of_lines, outcome_of_rest};
 
 use crate::answering::{Said, line_said, malformed_said, nothing_said};
@@ -62,6 +64,23 @@ impl Session {
         }
     }
 
+    /// A run in which a cluster was made already, by a line before this one.
+    #[cfg(test)]
+    pub(crate) fn with_cluster(alloc: Global, cluster: Cluster) -> Session
+        requires fresh { cluster.steps ≡ 0 }
+        requires going { cluster.ended ≡ false }
+        requires stands { (m : Machine) × StandsFor cluster m }
+    {
+        Session {
+            alloc,
+            cluster: Some(cluster),
+            pending: Vec::new(alloc),
+            line: 2,
+            room: 67_108_863,
+            refused: false,
+        }
+    }
+
     /// Whether a reply was a refusal.
     pub fn refused(&self) -> bool
         ensures { result ≡ self.now.refused }
@@ -89,6 +108,7 @@ impl Session {
         ensures cleared { IfOk result (λ _. self.new.pending ≡ []) }
         ensures room { self.new.room ≡ self.old.room }
         ensures cause { DiskHasCause (D.view disk.old).faults (D.view disk.new).faults result }
+        ensures disk { IfErr result (λ e. e ≡ outage.Failed → IsLineOfDisk self.old.pending) }
     {
         let said = match line_said(
             self.alloc,
@@ -119,8 +139,10 @@ impl Session {
         ensures changes { ChangesOnly IsObjectName IsObjectName (D.view disk.old) (D.view disk.new) }
         ensures room { IfOk result (λ said. said.malformed ≡ false → self.new.room + 1 ≡ self.old.room) }
         ensures cleared { IfOk result (λ said. said.malformed ≡ false → byte ≡ 10 → self.new.pending ≡ []) }
+        ensures longer { IfOk result (λ said. said.malformed ≡ false → byte ≢ 10 → self.new.pending ≡ self.old.pending ++ byte ∷ []) }
         ensures quiet { IfOk result (λ said. said.malformed ≡ false → byte ≢ 10 → said.text.items ≡ []) }
         ensures cause { DiskHasCause (D.view disk.old).faults (D.view disk.new).faults result }
+        ensures disk { IfErr result (λ e. e ≡ outage.Failed → (byte ≡ 10) × IsLineOfDisk self.old.pending) }
     {
         if self.room == 0 {
             let column = self.pending.as_slice().len() + 1;
@@ -147,6 +169,7 @@ impl Session {
         ensures leads { (worlds : List World) (m : Option Machine) → IsHere worlds self.old (D.view disk.old) m [] → Leads (outcome_of_rest worlds (at_of self.old m) []).machine (D.view disk.old) (D.view disk.new) }
         ensures changes { ChangesOnly IsObjectName IsObjectName (D.view disk.old) (D.view disk.new) }
         ensures cause { DiskHasCause (D.view disk.old).faults (D.view disk.new).faults result }
+        ensures disk { IfErr result (λ e. e ≡ outage.Failed → IsLineOfDisk self.old.pending) }
     {
         if self.is_amid_line() {
             return self.end_line(disk);

@@ -11,7 +11,7 @@ use Rattle.version_store.specs.declared.mvcc_map.MvccMap.{MvccMap}
 use Rattle.table_rows.specs.declared.faults.RowsFault.{RowsFault}
 use Rattle.table_rows.specs.RowTables.{RowTables, HasRows, IsTableOf, MayAdd, MayAddAll, with_facts}
 use Rattle.reply_texts.specs.declared.refusals.Refusal.{Refusal}
-use Rattle.reply_texts.specs.declared.refusals.Refusal.TheVariants.{ClockFull, NoSuchTable, TooManyEvents}
+use Rattle.reply_texts.specs.declared.refusals.Refusal.TheVariants.{NoSuchTable, TooManyEvents}
 use Rattle.reply_texts.specs.declared.answers.Answer.{Answer}
 use Rattle.reply_texts.specs.declared.replies.Response.{Response}
 use Rattle.machine_model.specs.Machine.{Machine, Stepped, answered, judged, refusal_if, offline_refusal}

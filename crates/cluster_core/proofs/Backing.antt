@@ -1,6 +1,6 @@
 -- The tests of BACKUP, and the job of a full layer.
-use Rattle.std.proofs.Common.{◌≡◌, inl, inr, ℕ, ◌+◌, ◌<◌, ◌≤◌, ◌^◌, Bool, true, false, List, [], ◌∷◌, map, length, Option, Some, None, refl, sym, ap, subst, ◌∙◌, arith, Result, Ok, Err, IsErrAnd, if◌then◌else◌}
-use Rattle.std.specs.Prelude.{IfErr, option_and_then, slice_get}
+use Rattle.std.proofs.Common.{◌≡◌, inl, inr, ℕ, ◌+◌, ◌≤◌, ◌^◌, Bool, true, false, List, [], ◌∷◌, length, Option, Some, None, refl, sym, ap, subst, ◌∙◌, arith, Result, Err, IsErrAnd}
+use Rattle.std.specs.Prelude.{IfErr, option_and_then}
 use Rattle.std.specs.List.{AllByRecursion}
 use Rattle.std.proofs.lemmas.Bool.{cases_Bool}
 use Rattle.std.proofs.lemmas.Bool.Decides.{nat_tests}
@@ -11,7 +11,7 @@ use Rattle.table_descriptors.specs.declared.scopes.Scope.{Scope}
 use Rattle.table_descriptors.specs.Descriptors.{IsProperSchema, Schema}
 use Rattle.fact_model.specs.Facts.{Has}
 use Rattle.history_model.specs.Rows.{RowFact}
-use Rattle.history_model.specs.Histories.{Table, accepted, schemas_of}
+use Rattle.history_model.specs.Histories.{Table, schemas_of}
 use Rattle.schema_catalog.specs.Catalogs.{Schemas}
 use Rattle.row_codec.specs.declared.rows.Kind.{Kind}
 use Rattle.table_rows.specs.RowTables.{IsRowFact}
@@ -19,21 +19,20 @@ use Rattle.introduced_spans.specs.declared.plans.LayerPlan.{LayerPlan}
 use Rattle.introduced_spans.specs.declared.plans.PlanFault.{PlanFault}
 use Rattle.introduced_spans.specs.declared.plans.PlanFault.TheVariants as plan
 use Rattle.introduced_spans.specs.Spans.{FaultIs, layer_plan, plan_fault, span_of}
-use Rattle.layer_manifest.specs.declared.manifest.Manifest.{Manifest}
 use Rattle.layer_manifest.specs.declared.manifest.TablePart.{TablePart}
 use Rattle.layer_manifest.specs.Manifests.{IsProperScope}
 use Rattle.layer_model.specs.declared.names.LayerName.{LayerName}
 use Rattle.layer_model.specs.Names.{IsLayerName}
 use Rattle.backup_job.specs.Jobs.{Job, started}
-use Rattle.layer_objects.specs.Objects.{bare, by_id, described, name_of, plan_of, table_facts, table_kinds, table_threshold}
-use Rattle.layer_objects.specs.Storable.{AreStorable, IsFull, IsStorable, MayBeWritten, job_of}
+use Rattle.layer_objects.specs.Objects.{by_id, described, name_of, plan_of, table_facts, table_kinds, table_threshold}
+use Rattle.layer_objects.specs.Storable.{AreStorable, IsFull, job_of}
 use Rattle.layer_objects.proofs.Writable.{layers-written}
 use Rattle.layer_book.specs.Books.{name_in}
 use Rattle.layer_book.specs.Subdirectories.{last_full_of}
 use Rattle.layer_book.proofs.Carried.{last_full_map}
 use Rattle.reply_texts.specs.declared.refusals.Refusal.{Refusal}
 use Rattle.reply_texts.specs.declared.refusals.Refusal.TheVariants.{EndNotAfter}
-use Rattle.machine_model.specs.Machine.{Machine, first_refusal, refusal_if}
+use Rattle.machine_model.specs.Machine.{first_refusal, refusal_if}
 use Rattle.machine_model.specs.Backups.{end_refusal, full_layer, last_full, plan_refusal, refusal_of_plan}
 use Rattle.cluster_core.specs.declared.halts.Halt.{Halt}
 use Rattle.cluster_core.specs.declared.halts.Halt.TheVariants.{Refused, Disk, Memory}

@@ -5,9 +5,9 @@ use Rattle.std.proofs.lemmas.Result.{err_from_is_err_and}
 use Rattle.mvcc_keys.specs.Times.{Time, time_le}
 use Rattle.table_descriptors.specs.declared.scopes.Scope.{Scope}
 use Rattle.history_model.specs.Histories.{Table}
-use Rattle.outside_world.specs.Disk.{View, IsImage, IsKnown}
+use Rattle.outside_world.specs.Disk.{View, IsImage, IsKnown, IsSameContent}
 use Rattle.outside_world.specs.Objects.{Objects}
-use Rattle.outside_world.specs.Moments.{ChangesOnly, LeavesOnly, NoName}
+use Rattle.outside_world.specs.Moments.{ChangesOnly, NoName}
 use Rattle.outside_world.proofs.Runs.{as_read, only_less, still_known}
 use Rattle.version_store.specs.Tables.{Tables}
 use Rattle.version_store.specs.MapHolding.{KeepsAll}
@@ -30,15 +30,23 @@ use Rattle.reply_texts.specs.declared.replies.Response.{Response}
 use Rattle.machine_model.specs.Machine.{Backup, Machine, Stepped, answered, refused, unless_refused}
 use Rattle.machine_model.specs.Past.{IsLater}
 use Rattle.machine_model.specs.Backups.{backup_done, full_backup, full_layer, with_backup as with_made}
-use Rattle.machine_model.specs.Disks.{IsReady, StandsUntil, setting_of}
+use Rattle.machine_model.specs.Disks.{IsDone, IsIdle, IsReady, setting_of}
 use Rattle.machine_model.proofs.DiskLaws.{ready_leaves}
 use Rattle.cluster_core.specs.declared.halts.Halt.{Halt}
 use Rattle.cluster_core.specs.declared.halts.Halt.TheVariants.{Refused, Disk, Memory}
 use Rattle.cluster_core.specs.ClusterView.{ClusterState}
 use Rattle.cluster_core.specs.Halting.{halt_of_dir}
-use Rattle.cluster_core.specs.Standing.{HasBackups, HaltCounts, HaltHasCause, IsOwnName, IsReadyAfter, Keeps, MayStep, RefusedBy, Responds, Runs, StandsFor, machine_of}
+use Rattle.cluster_core.specs.Standing.{HaltCounts, HaltHasCause, IsOwnName, Keeps, MayStep, RefusedBy, Runs, StandsFor, machine_of}
 use Rattle.cluster_core.specs.Backing.{IsFullJob, StandsStill, done_of, layer_refusal, with_backup, with_job}
 use Rattle.cluster_core.proofs.Storing.{answer-is, done-ready, failed, few, is-among-layers, is-writing, made, only-disk}
+
+-- ---- commands that do nothing to the disk
+
+pub idle-same : (a b : View) → IsSameContent a b → IsIdle a b
+idle-same a b same = record { objects = same.objects; calls = same.calls }
+
+pub idle-none : (v : View) → IsIdle v v
+idle-none v = record { objects = refl; calls = refl }
 
 -- ---- commands that stop before they change anything
 
@@ -51,9 +59,10 @@ halted-runs c m s to v (Refused refusal) test by means only stands ready =
       responds = (subst (λ (x : Stepped). StandsFor c x.machine) (sym is) stands, ap (λ (x : Stepped). x.response) is);
       ready = subst (λ (x : Stepped). IsReady (Some x.machine) (Some to) v) (sym is) ready;
       leaves = ready_leaves (Some m) (Some to) v only ready;
+      idle = λ done. idle-none v;
     }
 halted-runs c m s to v Disk test by means only stands ready = absurd by
-halted-runs c m s to v Memory test by means only stands ready = record { responds = tt; ready = tt; leaves = ready_leaves (Some m) (Some to) v only ready }
+halted-runs c m s to v Memory test by means only stands ready = record { responds = tt; ready = tt; leaves = ready_leaves (Some m) (Some to) v only ready; idle = λ done. idle-none v }
 
 pub as-returned : (P : Result Answer Halt → Type 0) (r : Result Answer Halt) (e : Halt) → IsErrAnd r (λ y. y ≡ e) → P (Err e) → P r
 as-returned P r e is p = let q = err_from_is_err_and r is in subst P (sym (q.1 ∙ ap Err q.2)) p
@@ -160,13 +169,20 @@ module _ (c : ClusterState) (collection : List ℕ) (scope : Scope) (end clock :
           (is-among-layers c s.tables s.keeps s.backups collection scope end clock within on job (full s.tables s.keeps) to first (ready-of m to may) (later-of m to may))
           (is-writing c s.tables s.keeps s.backups collection scope end clock within on job (full s.tables s.keeps) to first (ready-of m to may) (later-of m to may))
 
+      -- the layer is open already
+      idle : (m to : Machine) → MayStep c m (means m) to first → IsDone to first.objects → IsIdle first now
+      idle m to may done =
+          let s = may.stands in
+          let among = is-among-layers c s.tables s.keeps s.backups collection scope end clock within on job (full s.tables s.keeps) to first (ready-of m to may) (later-of m to may) in
+          idle-same first now ((writes m to may).calm (done _ among.started).0)
+
       -- the disk failed, or memory was wanting
       pub memory-runs : (new : ClusterState) (r : Result Answer Halt) → IsErrAnd r (λ y. y ≡ Memory) → (m to : Machine) → MayStep c m (means m) to first → Runs new (means m) to r first now
-      memory-runs new r is-err m to may = as-returned (λ (x : Result Answer Halt). Runs new (means m) to x first now) r Memory is-err (record { responds = tt; ready = tt; leaves = (writes m to may).moments })
+      memory-runs new r is-err m to may = as-returned (λ (x : Result Answer Halt). Runs new (means m) to x first now) r Memory is-err (record { responds = tt; ready = tt; leaves = (writes m to may).moments; idle = idle m to may })
 
       fault-ends : (new : ClusterState) (m to : Machine) (may : MayStep c m (means m) to first) (fault : DirFault) → IsDiskFault fault → Runs new (means m) to (Err (halt_of_dir fault)) first now
-      fault-ends new m to may dir.Failed ok = record { responds = tt; ready = tt; leaves = (writes m to may).moments }
-      fault-ends new m to may dir.Memory ok = record { responds = tt; ready = tt; leaves = (writes m to may).moments }
+      fault-ends new m to may dir.Failed ok = record { responds = tt; ready = tt; leaves = (writes m to may).moments; idle = idle m to may }
+      fault-ends new m to may dir.Memory ok = record { responds = tt; ready = tt; leaves = (writes m to may).moments; idle = idle m to may }
       fault-ends new m to may (dir.Damaged object wanted found) never = absurd never
       fault-ends new m to may (dir.Malformed object offset) never = absurd never
       fault-ends new m to may (dir.LayerDiffers object wanted found) never = absurd never
@@ -197,4 +213,5 @@ module _ (c : ClusterState) (collection : List ℕ) (scope : Scope) (end clock :
             );
             ready = subst (λ (y : Stepped). IsReady (Some y.machine) (Some to) now) (sym is-made) ready;
             leaves = run.moments;
+            idle = idle m to may;
           }

@@ -1,5 +1,5 @@
 -- The end of a backup, and the tests of its database or its tables.
-use Rattle.std.proofs.Common.{◌≡◌, ◌==◌, true≢false, inl, inr, ℕ, zero, suc, ◌+◌, ◌-◌, cond, option_map, unwrap_or, slice_get, ◌<◌, ◌≤◌, ◌^◌, Bool, true, false, nat_lt, List, [], ◌∷◌, ◌++◌, length, filter, Option, Some, None, refl, sym, ap, subst, ◌∙◌, arith, Result, Err, IsErrAnd}
+use Rattle.std.proofs.Common.{◌≡◌, ◌==◌, true≢false, inl, inr, ℕ, zero, suc, ◌+◌, ◌-◌, cond, option_map, unwrap_or, slice_get, ◌<◌, ◌≤◌, ◌^◌, Bool, true, false, List, [], ◌∷◌, ◌++◌, length, filter, Option, Some, None, refl, sym, ap, subst, ◌∙◌, arith, Result, IsErrAnd}
 use Rattle.std.specs.List.{range_with_len}
 use Rattle.std.proofs.lemmas.List.{length_push}
 use Rattle.std.proofs.lemmas.Bool.{cases_Bool}
@@ -17,16 +17,16 @@ use Rattle.outside_world.specs.Objects.{Objects}
 use Rattle.reply_texts.specs.declared.refusals.Refusal.{Refusal}
 use Rattle.reply_texts.specs.declared.refusals.Refusal.TheVariants.{ClockFull, Future}
 use Rattle.reply_texts.specs.declared.answers.Answer.{Answer}
-use Rattle.machine_model.specs.Machine.{Machine, Stepped, catalog_of, first_refusal, judged, refusal_if, refused, unless_refused, with_time}
+use Rattle.machine_model.specs.Machine.{Machine, Stepped, catalog_of, refusal_if, refused, with_time}
 use Rattle.machine_model.specs.Backups.{ending, full_backup, has_one_of, ids_named}
 use Rattle.machine_model.proofs.DiskLaws.{ready_leaves}
 use Rattle.machine_model.specs.TableRows.{future_refusal}
 use Rattle.cluster_core.specs.declared.halts.Halt.{Halt}
-use Rattle.cluster_core.specs.declared.halts.Halt.TheVariants.{Refused, Memory}
+use Rattle.cluster_core.specs.declared.halts.Halt.TheVariants.{Memory}
 use Rattle.cluster_core.specs.ClusterView.{ClusterState}
 use Rattle.cluster_core.specs.Standing.{Keeps, MayStep, RefusedBy, Runs, StandsFor, machine_of}
 use Rattle.cluster_core.specs.Backing.{IsEnding, IsEndingFault}
-use Rattle.cluster_core.proofs.BackingUp.{as-returned, halted-runs}
+use Rattle.cluster_core.proofs.BackingUp.{as-returned, halted-runs, idle-none}
 use Rattle.cluster_core.proofs.Flow.{catalog-is, passes, stops}
 use Rattle.cluster_core.proofs.Kept.{next-later}
 use Rattle.fact_model.proofs.TimeLaws.{le-from_lt, le-refl}
@@ -87,7 +87,7 @@ module _ (m : Machine) (collection : List ℕ) (scope : Scope) (end clock : Time
 
 -- a command that wanted memory before it changed anything
 pub memory-halted : (c : ClusterState) (m : Machine) (s : Stepped) (to : Machine) (v : View) → (IsKnown v → (image : Objects) → v.left_since v.moment image → IsImage v image) → (r : Result Answer Halt) → IsErrAnd r (λ y. y ≡ Memory) → MayStep c m s to v → Runs c s to r v v
-memory-halted c m s to v only r is may = as-returned (λ (x : Result Answer Halt). Runs c s to x v v) r Memory is (record { responds = tt; ready = tt; leaves = ready_leaves (Some m) (Some to) v only may.ready })
+memory-halted c m s to v only r is may = as-returned (λ (x : Result Answer Halt). Runs c s to x v v) r Memory is (record { responds = tt; ready = tt; leaves = ready_leaves (Some m) (Some to) v only may.ready; idle = λ done. idle-none v })
 
 -- ---- a backup up to its end
 

@@ -1,7 +1,6 @@
 -- The tests of a command, one after another: where one refuses, and where all pass.
-use Rattle.std.proofs.Common.{◌≡◌, ℕ, Bool, refl, sym, ap, ◌∙◌, subst, List, ◌∷◌, Option, Some, None, Result, Ok, Err, IsErrAnd}
-use Rattle.std.specs.Prelude.{IfOk}
-use Rattle.std.proofs.lemmas.Result.{err_from_is_err_and, IfOk-weaker}
+use Rattle.std.proofs.Common.{◌≡◌, ℕ, refl, sym, ap, ◌∙◌, subst, List, ◌∷◌, Option, Some, None, Result, Err, IsErrAnd}
+use Rattle.std.proofs.lemmas.Result.{err_from_is_err_and}
 use Rattle.mvcc_keys.specs.Times.{Time, next}
 use Rattle.table_descriptors.specs.Descriptors.{Schema}
 use Rattle.history_model.specs.Histories.{Table, Found}
@@ -12,22 +11,17 @@ use Rattle.table_rows.specs.declared.faults.RowsFault.{RowsFault}
 use Rattle.table_rows.specs.declared.faults.RowsFault.TheVariants.{WrongRow as Wrong, TooLarge as Large, DuplicateKey as Duplicate, EmptyRange as Empty, Memory as NoMemory}
 use Rattle.table_rows.specs.Checks.{Finds}
 use Rattle.reply_texts.specs.declared.refusals.Refusal.{Refusal}
-use Rattle.reply_texts.specs.declared.refusals.Refusal.TheVariants.{ClockFull, NoSuchTable}
+use Rattle.reply_texts.specs.declared.refusals.Refusal.TheVariants.{NoSuchTable}
 use Rattle.reply_texts.specs.declared.answers.Answer.{Answer}
 use Rattle.reply_texts.specs.declared.replies.Response.{Response}
-use Rattle.machine_model.specs.Machine.{World, Machine, Stepped, refused, answered, judged, drawing, with_time, with_table, with_found, catalog_of}
+use Rattle.machine_model.specs.Machine.{Machine, Stepped, refused, answered, judged, drawing, with_time, with_table, with_found, catalog_of}
 use Rattle.machine_model.specs.Refusals.{refusal_of_catalog, refusal_of_rows, catalog_refusal, rows_refusal}
-use Rattle.cluster_core.specs.declared.fault.RunFault.{RunFault}
 use Rattle.cluster_core.specs.declared.halts.Halt.{Halt}
 use Rattle.cluster_core.specs.declared.halts.Halt.TheVariants.{Refused, Disk, Memory}
 use Rattle.cluster_core.specs.ClusterView.{ClusterState}
 use Rattle.cluster_core.specs.Finding.{found_in, IsMissing}
 use Rattle.cluster_core.specs.Halting.{halt_of}
-use Rattle.cluster_core.specs.Standing.{Keeps, machine_of, HasTables, IsStepped, RefusedBy, Refuses, Does}
-use Rattle.cluster_core.specs.Stepping.{IsReplyOf, IsReplied}
-use Rattle.reply_texts.specs.declared.replies.Reply.{Reply}
-use Rattle.fact_model.proofs.TimeLaws.{le-refl}
-use Rattle.cluster_core.proofs.Kept.{keeps-as}
+use Rattle.cluster_core.specs.Standing.{Keeps, machine_of, IsStepped, RefusedBy, Refuses, Does}
 use Rattle.cluster_core.proofs.Looking.{Sees, misses}
 
 -- ---- halts

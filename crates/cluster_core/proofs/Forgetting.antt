@@ -1,5 +1,5 @@
 -- FORGET over a ready disk, and over every disk.
-use Rattle.std.proofs.Common.{◌≡◌, ◌≢◌, ◌⊎◌, inl, inr, ⊎_elim, ℕ, ◌<◌, ◌≤◌, ◌==◌, true, false, ◌&&◌, not, List, map, filter, length, Option, Some, None, option_map, slice_get, refl, sym, ap, subst, ◌∙◌, arith, Contains, Ok, Err, true≢false}
+use Rattle.std.proofs.Common.{◌≡◌, ◌≢◌, ◌⊎◌, inl, inr, ⊎_elim, ℕ, ◌<◌, ◌≤◌, ◌==◌, true, ◌&&◌, not, List, map, filter, length, Option, Some, None, option_map, slice_get, refl, sym, ap, subst, ◌∙◌, arith, Contains, Ok, Err, true≢false}
 use Rattle.std.specs.List.{find}
 use Rattle.std.proofs.lemmas.Bool.{cases_Bool}
 use Rattle.std.proofs.lemmas.Bool.Decides.{nat_tests}
@@ -40,7 +40,7 @@ use Rattle.reply_texts.specs.declared.answers.Answer.TheVariants.{Plain}
 use Rattle.machine_model.specs.Machine.{Backup, Machine, Stepped, answered, refused}
 use Rattle.machine_model.specs.Past.{IsLater}
 use Rattle.machine_model.specs.Backups.{forget, forgetting, is_between_times, layers_in, source_among, with_found}
-use Rattle.machine_model.specs.Disks.{IsGone, IsReady, IsThere, StandsUntil, made_layers, setting_of}
+use Rattle.machine_model.specs.Disks.{IsDone, IsGone, IsReady, IsThere, StandsUntil, made_layers, setting_of}
 use Rattle.machine_model.proofs.DiskLaws.{ready_images}
 use Rattle.machine_model.proofs.Settings.{is-made, settings-proper}
 use Rattle.cluster_core.specs.declared.halts.Halt.{Halt}
@@ -290,10 +290,25 @@ module _ (c : ClusterState) (source : Src) (collection : List ℕ) (start end : 
         leaves-of : (m to : Machine) → MayStep c m (means m) to first → LeavesOnly first now (StandsUntil (Some to))
         leaves-of m to may = let s = may.stands in moments s.tables s.keeps s.backups to (ready-of m to may) (later-of m to may)
 
+        -- a layer that is forgotten is none of the script's end
+        not-done : (m to : Machine) (may : MayStep c m (means m) to first) → IsDone to first.objects → ⊥
+        not-done m to may done =
+            let s = may.stands in
+            let ready = ready-of m to may in
+            let later = later-of m to may in
+            let kept = (done (w s.tables s.keeps s.backups to ready later) (is-started s.tables s.keeps s.backups to ready later)).1 in
+            let same : name_of kept.0 ≡ name_of r = kept.2 ∙ layer-name to.history.tables r in
+            let i = place-of s.tables s.backups in
+            let number = (own s.tables s.backups).number in
+            ⊎_elim
+            (λ has. true≢false (sym (filter-passes (λ x. not (same_name (name_of x) (name_of r))) kept.0 (map record_of c.book.layers) has) ∙ (ap (λ (n : LayerName). not (same_name n (name_of r))) same ∙ ap not (same-itself (name_of r)))))
+            (λ after. (let at = ap (λ (n : LayerName). n.job) same in let lt = i.2 in omega (arith, after, at, number, lt)))
+            (later.layers kept.0 kept.1)
+
         -- the disk failed, or memory was wanting
         pub fault-runs : (fault : DirFault) → IsDiskFault fault → (m to : Machine) → MayStep c m (means m) to first → Runs c (means m) to (Err (halt_of_dir fault)) first now
-        fault-runs dir.Failed ok m to may = record { responds = tt; ready = tt; leaves = leaves-of m to may }
-        fault-runs dir.Memory ok m to may = record { responds = tt; ready = tt; leaves = leaves-of m to may }
+        fault-runs dir.Failed ok m to may = record { responds = tt; ready = tt; leaves = leaves-of m to may; idle = λ done. absurd (not-done m to may done) }
+        fault-runs dir.Memory ok m to may = record { responds = tt; ready = tt; leaves = leaves-of m to may; idle = λ done. absurd (not-done m to may done) }
         fault-runs (dir.Damaged object wanted found) never m to may = absurd never
         fault-runs (dir.Malformed object offset) never m to may = absurd never
         fault-runs (dir.LayerDiffers object wanted found) never m to may = absurd never
@@ -313,4 +328,5 @@ module _ (c : ClusterState) (source : Src) (collection : List ℕ) (start end : 
               );
               ready = subst (λ (y : Stepped). IsReady (Some y.machine) (Some to) now) (sym is) (done-ready s.tables s.keeps s.backups to (ready-of m to may) (later-of m to may) changes (gone tells) (settled tells) stands);
               leaves = leaves;
+              idle = λ done. absurd (not-done m to may done);
             }

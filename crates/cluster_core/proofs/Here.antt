@@ -1,6 +1,6 @@
 -- Commands that have nothing to do with the disk: they leave the layers and the jobs, and the disk stays ready.
-use Rattle.std.proofs.Common.{◌≡◌, ◌⊎◌, ℕ, Bool, true, arith, List, map, length, Option, Some, None, slice_get, refl, sym, ap, subst, ◌∙◌, Result, Ok, Err}
-use Rattle.mvcc_keys.specs.Times.{Time, time_le}
+use Rattle.std.proofs.Common.{◌≡◌, ◌⊎◌, ℕ, Bool, true, arith, List, map, length, Some, slice_get, refl, sym, ap, subst, ◌∙◌, Result, Ok, Err, IfErr}
+use Rattle.mvcc_keys.specs.Times.{time_le}
 use Rattle.fact_model.specs.Facts.{Has}
 use Rattle.fact_model.proofs.TimeLaws.{le-refl, le-trans}
 use Rattle.history_model.specs.Histories.{Table}
@@ -17,14 +17,14 @@ use Rattle.reply_texts.specs.declared.answers.Answer.{Answer}
 use Rattle.reply_texts.specs.declared.refusals.Refusal.{Refusal}
 use Rattle.machine_model.specs.Machine.{Backup, Job, Machine, Stepped, refused}
 use Rattle.machine_model.specs.Past.{IsLater}
-use Rattle.machine_model.specs.Disks.{AreKept, IsGone, IsReady, StandsUntil}
+use Rattle.machine_model.specs.Disks.{IsGone, IsReady}
 use Rattle.machine_model.proofs.DiskLaws.{ready_leaves}
 use Rattle.cluster_core.specs.declared.halts.Halt.{Halt}
 use Rattle.cluster_core.specs.declared.halts.Halt.TheVariants.{Refused, Disk, Memory}
 use Rattle.cluster_core.specs.ClusterView.{ClusterState, record_of}
 use Rattle.cluster_core.specs.Standing.{Does, HaltHasCause, HasBackups, HasTables, IsBooked, IsOwnBackup, Keeps, LeavesRest, MayStep, Runs, StandsFor, machine_of}
 use Rattle.cluster_core.specs.Backing.{StandsStill}
-use Rattle.cluster_core.proofs.BackingUp.{halted-runs}
+use Rattle.cluster_core.proofs.BackingUp.{halted-runs, idle-none}
 use Rattle.cluster_core.proofs.Kept.{keeps-as}
 use Rattle.cluster_core.proofs.Others.{final}
 use Rattle.cluster_core.proofs.Storing.{has-place}
@@ -96,13 +96,14 @@ module _ (old new : ClusterState) (meaning : Machine → Stepped) (later : (m : 
         responds = (t, sym (done.response_is ∙ ap (λ (x : Machine). (meaning x).response) (sym s.machine_is)));
         ready = ready-then m to v s t may.ready;
         leaves = ready_leaves (Some m) (Some to) v only may.ready;
+        idle = λ done. idle-none v;
       }
   here-runs (Err (Refused refusal)) does v only m to may =
       let s = may.stands in
       let is : meaning m ≡ refused m refusal = subst (λ (x : Machine). meaning x ≡ refused x refusal) (sym s.machine_is) (does.1 s.tables s.keeps) in
       subst (λ (c : ClusterState). Runs c (meaning m) to (Err (Refused refusal)) v v) (sym does.0) (halted-runs old m (meaning m) to v (Refused refusal) (Some refusal) refl (λ other e. is ∙ same-refused m refusal other e) only s may.ready)
   here-runs (Err Disk) does v only m to may = absurd does
-  here-runs (Err Memory) does v only m to may = record { responds = tt; ready = tt; leaves = ready_leaves (Some m) (Some to) v only may.ready }
+  here-runs (Err Memory) does v only m to may = record { responds = tt; ready = tt; leaves = ready_leaves (Some m) (Some to) v only may.ready; idle = λ done. idle-none v }
 
   pub here-still : (r : Result Answer Halt) → Does old new meaning r → (m : Machine) × StandsFor old m → StandsStill r new
   here-still (Ok answer) does x = ((meaning x.0).machine, stands-then x.0 x.1 (does x.1.tables x.1.keeps).stands)
@@ -116,3 +117,10 @@ module _ (old new : ClusterState) (meaning : Machine → Stepped) (later : (m : 
   here-cause (Err (Refused refusal)) does faults = record { later = omega arith; capped = λ le. le; counts = refl }
   here-cause (Err Disk) does faults = absurd does
   here-cause (Err Memory) does faults = record { later = omega arith; capped = λ le. le; counts = refl }
+
+  -- and so no halt here is a fault of it
+  pub here-halts : (X : Type 0) (r : Result Answer Halt) → Does old new meaning r → IfErr r (λ e. e ≡ Disk → X)
+  here-halts X (Ok answer) does = tt
+  here-halts X (Err (Refused refusal)) does = λ no. absurd (cc no)
+  here-halts X (Err Disk) does = absurd does
+  here-halts X (Err Memory) does = λ no. absurd (cc no)

@@ -24,6 +24,7 @@ pub mod Restored
 pub mod Restorings
 pub mod Covers
 pub mod Choosing
+pub mod Ascending
 pub mod Stands
 pub mod Items
 pub mod Rereading

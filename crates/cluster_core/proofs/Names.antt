@@ -1,19 +1,16 @@
 -- Names that belong to tables, thresholds of tables, and the layers of a source.
-use Rattle.std.proofs.Common.{◌≡◌, ◌≢◌, inl, inr, ℕ, zero, suc, ◌+◌, ◌-◌, ◌<◌, ◌≤◌, ◌==◌, nat_lt, Bool, true, false, List, [], ◌∷◌, ◌++◌, map, length, Option, Some, None, option_map, unwrap_or, slice_get, refl, sym, ap, ◌∙◌, subst, arith}
-use Rattle.std.specs.List.{find, list_any, range_with_len}
+use Rattle.std.proofs.Common.{◌≡◌, ◌≢◌, inl, inr, ℕ, zero, suc, ◌+◌, ◌-◌, ◌<◌, ◌≤◌, ◌==◌, nat_lt, Bool, true, false, List, [], ◌∷◌, map, length, None, option_map, unwrap_or, slice_get, refl, sym, ap, ◌∙◌, arith}
+use Rattle.std.specs.List.{list_any, range_with_len}
 use Rattle.std.proofs.Math.Path.{fun_ext}
 use Rattle.std.proofs.lemmas.Bool.{cases_Bool}
 use Rattle.std.proofs.lemmas.Bool.Decides.{nat_tests}
 use Rattle.mvcc_keys.specs.Times.{Time, zero_time}
 use Rattle.table_descriptors.specs.Descriptors.{Schema}
 use Rattle.history_model.specs.Histories.{Table, has_name, in_force}
-use Rattle.layer_manifest.specs.declared.manifest.Manifest.{Manifest}
-use Rattle.layer_model.specs.declared.names.LayerName.{LayerName}
 use Rattle.introduced_spans.specs.declared.plans.Threshold.{Threshold}
 use Rattle.introduced_spans.specs.Spans.{threshold_of}
-use Rattle.layer_objects.specs.Objects.{by_id, name_of, table_threshold}
+use Rattle.layer_objects.specs.Objects.{by_id, table_threshold}
 use Rattle.machine_model.specs.Backups.{has_one_of}
-use Rattle.cluster_core.specs.ClusterView.{record_of}
 
 -- ---- names
 

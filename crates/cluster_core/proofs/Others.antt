@@ -1,20 +1,18 @@
 -- What a call on one layer's objects leaves of another layer, and layers that are final.
-use Rattle.std.proofs.Common.{◌≡◌, ◌≢◌, ◌⊎◌, inl, inr, ⊎_elim, ℕ, ◌+◌, ◌<◌, ◌≤◌, true, List, [], ◌∷◌, ◌++◌, length, Option, Some, None, slice_get, refl, sym, ap, subst, ◌∙◌, arith}
+use Rattle.std.proofs.Common.{◌≡◌, ◌≢◌, inl, inr, ⊎_elim, ℕ, true, List, ◌∙◌}
 use Rattle.mvcc_keys.specs.Times.{Time, time_le}
-use Rattle.fact_model.specs.Facts.{Has}
 use Rattle.history_model.specs.Histories.{Table}
 use Rattle.history_model.specs.Layers as recorded
 use Rattle.outside_world.specs.Disk.{View}
 use Rattle.outside_world.specs.Moments.{ChangesOnly}
 use Rattle.outside_world.specs.Objects.{Objects, at}
-use Rattle.layer_model.specs.declared.names.LayerName.{LayerName}
 use Rattle.layer_model.specs.declared.names.Part.{Part}
 use Rattle.layer_model.specs.declared.names.Part.TheVariants as part
 use Rattle.layer_model.specs.Names.{IsLayerName}
 use Rattle.layer_model.specs.Layers.{Has as HasPart, IsLayer, IsPartName, Layer, name_of}
 use Rattle.layer_model.proofs.LayerLaws.{part_is_numbered}
 use Rattle.layer_model.proofs.StandsLaws.{one_object}
-use Rattle.collection_dir.specs.Safety.{IsWholeInEither, with_manifest}
+use Rattle.collection_dir.specs.Safety.{with_manifest}
 use Rattle.layer_objects.specs.Objects.{objects_of}
 use Rattle.layer_objects.specs.Past.{AreBegun, KeepsPast}
 use Rattle.layer_objects.specs.Storable.{IsFull, older_manifest}

@@ -1,10 +1,10 @@
 -- No command changes what was true up to the clock.
-use Rattle.std.proofs.Common.{◌≡◌, ◌≢◌, inl, inr, ⊎_elim, ℕ, Bool, true, false, not, List, [], ◌∷◌, ◌++◌, map, eqb, refl, sym, ap, subst, ◌∙◌, arith, append_assoc}
+use Rattle.std.proofs.Common.{◌≡◌, ◌≢◌, inl, inr, ⊎_elim, ℕ, ◌<◌, length, Bool, true, false, not, List, [], ◌∷◌, ◌++◌, map, eqb, refl, sym, ap, subst, ◌∙◌, arith, append_assoc}
 use Rattle.std.specs.Prelude.{Option, Some, None, option_map, option_and_then, unwrap_or, slice_get, slice_set}
 use Rattle.std.specs.List.{find}
 use Rattle.std.proofs.lemmas.Bool.{cases_Bool}
 use Rattle.std.proofs.lemmas.Bool.Decides.{nat_tests}
-use Rattle.std.proofs.lemmas.List.{append-nil}
+use Rattle.std.proofs.lemmas.List.{append-nil, length-append}
 use Rattle.mvcc_keys.specs.Times.{Time, time, next, time_le, time_lt}
 use Rattle.row_codec.specs.declared.rows.Kind.{Kind}
 use Rattle.row_codec.specs.declared.rows.Datum.{Datum}
@@ -16,7 +16,7 @@ use Rattle.table_descriptors.specs.Restoring.{restored_schema}
 use Rattle.table_descriptors.specs.declared.scopes.Scope.{Scope}
 use Rattle.table_descriptors.specs.declared.scopes.Scope.TheVariants.{Database, Tables}
 use Rattle.fact_model.specs.Facts.{Del, DelRange, Has, date}
-use Rattle.fact_model.proofs.Members.{has-append_cases, map-has}
+use Rattle.fact_model.proofs.Members.{filter-has, has-append_cases, map-has}
 use Rattle.fact_model.proofs.TimeLaws.{le-refl, le-trans, le-from_lt, lt-trans, lt-weaker}
 use Rattle.history_model.specs.Rows.{Key, RowFact, put_of}
 use Rattle.history_model.specs.Histories.{History, Table, Found, found_at, in_force, named, place_named, schemas_of}
@@ -41,7 +41,9 @@ use Rattle.id_remap.specs.declared.targets.Target.{Target}
 use Rattle.id_remap.specs.declared.targets.Target.TheVariants as target
 use Rattle.id_remap.specs.Remapping.{new_ids, remapped_schema}
 use Rattle.script_grammar.specs.declared.backups.Src.{Src}
+use Rattle.layer_objects.specs.Objects.{name_of}
 use Rattle.layer_objects.specs.Past.{IsLonger, KeepsPast}
+use Rattle.layer_book.specs.Books.{same_name}
 use Rattle.machine_model.specs.Past.{IsLater, StepsAreLater}
 use Rattle.cluster_core.proofs.Kept.{next-later}
 use Rattle.cluster_core.proofs.Lists.{got-set, got-set_other, got-left, got-either}
@@ -131,20 +133,25 @@ later-then a b c p q = record {
   tables = past-then a.clock b.clock a.history.tables b.history.tables c.history.tables p.clock p.tables q.tables;
   more = p.more ++ q.more;
   jobs = more-then a.jobs b.jobs c.jobs p.more q.more p.jobs q.jobs;
+  layers = λ r has. ⊎_elim (p.layers r) (λ (after : length b.jobs < r.job). inr (let n = ap length p.jobs ∙ length-append a.jobs p.more in omega (arith, n, after))) (q.layers r has);
 }
 
 -- ---- tests, drawn times, tables by name
 
 -- no job more
-later-as : (m : Machine) (clock : Time) (history : History) (layers : List Layer) → time_le m.clock clock ≡ true → KeepsPast m.clock m.history.tables history.tables → IsLater m (record m { clock = clock; history = history; layers = layers })
-later-as m clock history layers le keeps = record { name = refl; limits = refl; clock = le; tables = keeps; more = []; jobs = sym (append-nil m.jobs) }
+later-fewer : (m : Machine) (clock : Time) (history : History) (layers : List Layer) → ((r : Layer) → Has r layers → Has r m.layers) → time_le m.clock clock ≡ true → KeepsPast m.clock m.history.tables history.tables
+    → IsLater m (record m { clock = clock; history = history; layers = layers })
+later-fewer m clock history layers among le keeps = record { name = refl; limits = refl; clock = le; tables = keeps; more = []; jobs = sym (append-nil m.jobs); layers = λ r has. inl (among r has) }
 
--- other layers
-later-layers : (m : Machine) (layers : List Layer) → IsLater m (record m { layers = layers })
-later-layers m layers = later-as m m.clock m.history layers (le-refl m.clock) (past-same m.clock m.history.tables)
+later-as : (m : Machine) (clock : Time) (history : History) → time_le m.clock clock ≡ true → KeepsPast m.clock m.history.tables history.tables → IsLater m (record m { clock = clock; history = history; layers = m.layers })
+later-as m clock history = later-fewer m clock history m.layers (λ r has. has)
+
+-- fewer layers
+later-layers : (m : Machine) (layers : List Layer) → ((r : Layer) → Has r layers → Has r m.layers) → IsLater m (record m { layers = layers })
+later-layers m layers among = later-fewer m m.clock m.history layers among (le-refl m.clock) (past-same m.clock m.history.tables)
 
 pub later-same : (m : Machine) → IsLater m m
-later-same m = later-layers m m.layers
+later-same m = later-layers m m.layers (λ r has. has)
 
 unless-later : (m : Machine) (r : Option Refusal) (change : Stepped) → IsLater m change.machine → IsLater m (unless_refused m r change).machine
 unless-later m None change later = later
@@ -185,12 +192,12 @@ unfolding tick
 tick-later m wall = by (time_lt m.clock (time wall 0)) refl
   where
     by : (b : Bool) → time_lt m.clock (time wall 0) ≡ b → IsLater m (unless_refused m (first_refusal (refusal_if (not b) (TickBack m.clock) ∷ [])) (answered (record m { clock = time wall 0 }) (ClockSet (time wall 0)))).machine
-    by true is = later-as m (time wall 0) m.history m.layers (le-from_lt m.clock (time wall 0) is) (past-same m.clock m.history.tables)
+    by true is = later-as m (time wall 0) m.history (le-from_lt m.clock (time wall 0) is) (past-same m.clock m.history.tables)
     by false is = later-same m
 
 database-later : (m : Machine) (name : List ℕ) → IsLater m (create_database m name).machine
 unfolding create_database
-database-later m name = unless-later m _ _ (later-as m m.clock (record m.history { databases = m.history.databases ++ name ∷ [] }) m.layers (le-refl m.clock) (past-same m.clock m.history.tables))
+database-later m name = unless-later m _ _ (later-as m m.clock (record m.history { databases = m.history.databases ++ name ∷ [] }) (le-refl m.clock) (past-same m.clock m.history.tables))
 
 new-modified : (id : ℕ) (database name : List ℕ) (columns : List (List ℕ × Kind)) (key : List (List ℕ × Bool)) (references : List ℕ) (t : Time) → (new_schema id database name columns key references t).modified ≡ t
 unfolding new_schema
@@ -211,14 +218,14 @@ unfolding create_table
 create-later m name columns key references = drawing-later m _ (λ t after.
     let d = first_schema (catalog_of m) t name columns key references in
     let dated : d.modified ≡ t = new-modified _ _ _ columns key _ t in
-    unless-later m _ _ (later-as m d.modified (with_new_table m d).history m.layers (subst (λ (u : Time). time_le m.clock u ≡ true) (sym dated) (le-from_lt m.clock t after))
+    unless-later m _ _ (later-as m d.modified (with_new_table m d).history (subst (λ (u : Time). time_le m.clock u ≡ true) (sym dated) (le-from_lt m.clock t after))
     (past-more m.clock m.history.tables (new_table d ∷ []) (λ table has. ⊎_elim
     (λ is. subst (λ (x : Table). (e : Schema) → Has e x.descriptors → time_lt m.clock e.modified ≡ true) (sym is) (one-dated m.clock t d dated after))
     (λ no. absurd no) has))))
 
 -- a descriptor that is dated after the clock
 described-later : (m : Machine) (f : Found) (d : Schema) (t : Time) → slice_get m.history.tables f.place ≡ Some f.table → d.modified ≡ t → time_lt m.clock t ≡ true → IsLater m (with_descriptor m f d)
-described-later m f d t got dated after = later-as m d.modified (with_descriptor m f d).history m.layers (subst (λ (u : Time). time_le m.clock u ≡ true) (sym dated) (le-from_lt m.clock t after))
+described-later m f d t got dated after = later-as m d.modified (with_descriptor m f d).history (subst (λ (u : Time). time_le m.clock u ≡ true) (sym dated) (le-from_lt m.clock t after))
     (past-set m.clock m.history.tables f.place f.table (described f.table d) got (record {
       id_is = refl;
       facts = [];
@@ -242,7 +249,7 @@ drop-later m name = drawing-later m _ (λ t after. table-later m name t _ (λ f 
 -- facts that are dated by the drawn time
 adding-later : (m : Machine) (name : List ℕ × List ℕ) (fault : Schema → Option RowsFault) (facts : Schema → Time → List RowFact) (answer : Time → Answer)
     → ((d : Schema) (t : Time) (f : RowFact) → Has f (facts d t) → date f ≡ t) → IsLater m (adding m name fault facts answer).machine
-adding-later m name fault facts answer dated = drawing-later m _ (λ t after. table-later m name t _ (λ f got. unless-later m _ _ (later-as m t (with_facts m f (facts f.schema t) t).history m.layers (le-from_lt m.clock t after)
+adding-later m name fault facts answer dated = drawing-later m _ (λ t after. table-later m name t _ (λ f got. unless-later m _ _ (later-as m t (with_facts m f (facts f.schema t) t).history (le-from_lt m.clock t after)
     (past-set m.clock m.history.tables f.place f.table (extended f.table (facts f.schema t)) got
     (record {
       id_is = refl;
@@ -282,14 +289,18 @@ collect-later : (m : Machine) (name : List ℕ × List ℕ) (g : Time) → IsLat
 unfolding collect
 collect-later m name g = table-later m name m.clock _ (λ f got.
     let t = raised f.table.threshold g in
-    unless-later m _ _ (later-as m m.clock (with_threshold m f t).history m.layers (le-refl m.clock)
+    unless-later m _ _ (later-as m m.clock (with_threshold m f t).history (le-refl m.clock)
     (past-set m.clock m.history.tables f.place f.table (record f.table { threshold = t }) got (longer-same m.clock f.table t))))
 
 -- ---- BACKUP, SHOW BACKUPS and FORGET
 
 full-later : (m : Machine) (tests : List (Option Refusal)) (collection : List ℕ) (scope : Scope) (end clock : Time) → time_le m.clock clock ≡ true → IsLater m (full_backup m tests collection scope end clock).machine
 full-later m tests collection scope end clock le = let r = full_layer m collection scope end in
-    unless-later m _ _ (record { name = refl; limits = refl; clock = le; tables = past-same m.clock m.history.tables; more = Backup r ∷ []; jobs = refl })
+    unless-later m _ _ (record { name = refl; limits = refl; clock = le; tables = past-same m.clock m.history.tables; more = Backup r ∷ []; jobs = refl; layers = λ q has. ⊎_elim (λ old. inl old) (λ new. inr (new-job q new)) (has-append_cases q m.layers (r ∷ []) has) })
+  where
+    new-job : (q : Layer) → Has q (full_layer m collection scope end ∷ []) → length m.jobs < q.job
+    new-job q (inl is) = subst (λ (x : Layer). length m.jobs < x.job) (sym is) (omega arith)
+    new-job q (inr none) = absurd none
 
 ending-later : (m : Machine) (at : Option Time) (change : Time → Time → Stepped) → ((end clock : Time) → time_le m.clock clock ≡ true → IsLater m (change end clock).machine) → IsLater m (ending m at change).machine
 ending-later m None change later = drawing-later m (λ t. change t t) (λ t after. later t t (le-from_lt m.clock t after))
@@ -317,7 +328,7 @@ show-later m collection = later-same m
 
 forget-later : (m : Machine) (source : Src) (collection : List ℕ) (start end : Time) → IsLater m (forget m source collection start end).machine
 unfolding forget
-forget-later m source collection start end = source-later m source collection _ (λ s. finding-later m NoSuchLayer (find (is_between_times start end) (layers_in m collection s)) _ (λ r. later-layers m (forgetting m r).layers))
+forget-later m source collection start end = source-later m source collection _ (λ s. finding-later m NoSuchLayer (find (is_between_times start end) (layers_in m collection s)) _ (λ r. later-layers m (forgetting m r).layers (λ q has. filter-has (λ x. not (same_name (name_of x) (name_of r))) q m.layers has)))
 
 -- ---- RESTORE
 
@@ -344,6 +355,7 @@ chosen-later m database t at published rs chosen first then =
           subst (λ (x : Table). (d : Schema) → Has d x.descriptors → time_lt m.clock d.modified ≡ true) (sym p.2) (restored-after m.clock m.history.tables (new_ids (catalog_of m) chosen) (target.Database database) t at published p.0 first second));
       more = Restore ∷ [];
       jobs = refl;
+      layers = λ r has. inl has;
     })
 
 cover-later : (m : Machine) (rs : List Layer) (c : Cover) (change : List Layer → Stepped) → ((xs : List Layer) → IsLater m (change xs).machine) → IsLater m (with_cover m rs c change).machine

@@ -1,5 +1,5 @@
 -- RESTORE DATABASE from a layer in the book, over a ready disk and over every disk.
-use Rattle.std.proofs.Common.{◌≡◌, ◌⊎◌, inl, inr, ⊎_elim, ℕ, ◌+◌, ◌≤◌, ◌<◌, ◌^◌, false, true, nat_lt, length, List, [], ◌∷◌, ◌++◌, map, Option, Some, None, option_and_then, slice_get, refl, sym, ap, ap₂, subst, subst₂, ◌∙◌, arith, Result, Ok, Err}
+use Rattle.std.proofs.Common.{◌≡◌, ◌⊎◌, inl, inr, ⊎_elim, ℕ, ◌+◌, ◌≤◌, ◌<◌, ◌^◌, false, nat_lt, length, List, [], ◌∷◌, ◌++◌, map, Option, Some, None, option_and_then, refl, sym, ap, ap₂, subst, ◌∙◌, arith, Result, Ok, Err}
 use Rattle.std.specs.List.{AllByRecursion}
 use Rattle.std.proofs.lemmas.List.Sums.{sum_by-cons}
 use Rattle.std.specs.Global.{Vec}
@@ -10,11 +10,11 @@ use Rattle.reply_texts.specs.declared.answers.Answer.{Answer}
 use Rattle.reply_texts.specs.declared.answers.Answer.TheVariants.{RestoreDone}
 use Rattle.reply_texts.specs.declared.answers.RestoredTable.{RestoredTable}
 use Rattle.reply_texts.specs.declared.replies.Response.{Response}
-use Rattle.mvcc_keys.specs.Times.{IsTime, Time, next, time_lt}
+use Rattle.mvcc_keys.specs.Times.{IsTime, Time, next}
 use Rattle.table_descriptors.specs.Descriptors.{IsProperSchema, Schema}
 use Rattle.fact_model.specs.Facts.{Has}
 use Rattle.fact_model.proofs.Members.{has-append_cases, has-map}
-use Rattle.history_model.specs.Histories.{Table, accepted, schemas_of}
+use Rattle.history_model.specs.Histories.{Table}
 use Rattle.history_model.specs.Layers.{Layer}
 use Rattle.schema_catalog.specs.Catalogs.{Schemas, history_of, next_id}
 use Rattle.outside_world.specs.Disk.{View, IsImage, IsKnown, OnlyReads}
@@ -25,7 +25,6 @@ use Rattle.layer_manifest.specs.declared.manifest.Manifest.{Manifest}
 use Rattle.layer_model.specs.declared.names.LayerName.{LayerName}
 use Rattle.layer_model.specs.Layers as stored
 use Rattle.layer_objects.specs.Objects.{objects_of}
-use Rattle.layer_objects.specs.Past.{KeepsPast}
 use Rattle.id_remap.specs.Remapping.{new_ids, remap_fault, remapped_schema}
 use Rattle.id_remap.specs.declared.targets.Target.{Target}
 use Rattle.id_remap.specs.declared.targets.Target.TheVariants as target
@@ -47,11 +46,12 @@ use Rattle.cluster_core.specs.Chains.{IsOneLayer, IsStanding}
 use Rattle.cluster_core.specs.Chains.{entries_in, stored_rows}
 use Rattle.cluster_core.specs.declared.restores.Plan.{Plan}
 use Rattle.cluster_core.specs.Restoring.{AreRowsOf, count_rows, entries_of, made_table, made_tables}
+use Rattle.cluster_core.proofs.BackingUp.{idle-same}
 use Rattle.cluster_core.proofs.Redone.{KeptBy, by-ids, kept-stands}
 use Rattle.cluster_core.proofs.Restored.{all-restored}
 use Rattle.cluster_core.proofs.Restorings.{count-is}
 use Rattle.cluster_core.specs.Restores.{AreTested, EndsBy, IsPlanned, refusal_of_chosen, restored_by, with_restore, room_test, shown_tables}
-use Rattle.cluster_core.proofs.Covers.{booked-full, has-place}
+use Rattle.cluster_core.proofs.Covers.{booked-full}
 use Rattle.cluster_core.proofs.Others.{final}
 use Rattle.cluster_core.proofs.Past.{chosen-later, finding-later, later-then}
 use Rattle.cluster_core.proofs.Rereading.{chosen-fresh, items-stored, over, rows-fresh, shown-chosen, standing, unraised}
@@ -207,9 +207,10 @@ module _ (c : ClusterState) (database new : List ℕ) (x : Chain) (layer : Layer
             responds = (subst (λ (y : Stepped). StandsFor c y.machine) (sym is) s, ap (λ (y : Stepped). y.response) is);
             ready = subst (λ (y : Stepped). IsReady (Some y.machine) (Some to) now) (sym is) (ready-read m to first now reads may.ready);
             leaves = leaves-read m to first now only reads may.ready;
+            idle = λ done. idle-same first now (reads.content may.ready.known.tells);
           }
-      ended-runs only reads Disk by = record { responds = tt; ready = tt; leaves = leaves-read m to first now only reads may.ready }
-      ended-runs only reads Memory by = record { responds = tt; ready = tt; leaves = leaves-read m to first now only reads may.ready }
+      ended-runs only reads Disk by = record { responds = tt; ready = tt; leaves = leaves-read m to first now only reads may.ready; idle = λ done. idle-same first now (reads.content may.ready.known.tells) }
+      ended-runs only reads Memory by = record { responds = tt; ready = tt; leaves = leaves-read m to first now only reads may.ready; idle = λ done. idle-same first now (reads.content may.ready.known.tells) }
 
       module _ (p : Plan) (planned : IsPlanned c.schemas new made shown p) (vs : List (Vec Entry)) (tested : AreTested shown vs) (time : IsTime made) (read : map entries_in vs ≡ map (stored_rows (unraised s.tables) r.end) shown) (room : room_test c (count_rows (entries_of vs)) ≡ None) where
         count : count_rows (entries_of vs) ≡ count_to_restore (unraised s.tables) r.end shown
@@ -247,7 +248,7 @@ module _ (c : ClusterState) (database new : List ℕ) (x : Chain) (layer : Layer
         pub done-runs : (res : Result Answer Halt) (n : ClusterState) → KeptBy c n new made published p vs res → OnOk res (n ≡ with_restore c new published (count_rows (entries_of vs)) n.schemas.tables n.store)
             → (k : ℕ) → k ≡ count_rows (entries_of vs) → IfOk res (λ a. a ≡ restored_by c new p.ids x.time made k x.layers.items p.chosen.items) → IfErr res (λ e. e ≡ Memory)
             → (IsKnown first → (image : Objects) → first.left_since first.moment image → IsImage first image) → OnlyReads first now → Runs n (means m) to res first now
-        done-runs (Err e) n kept rest k k-is answer fault only reads = subst (λ (y : Halt). Runs n (means m) to (Err y) first now) (sym fault) (record { responds = tt; ready = tt; leaves = leaves-read m to first now only reads may.ready })
+        done-runs (Err e) n kept rest k k-is answer fault only reads = subst (λ (y : Halt). Runs n (means m) to (Err y) first now) (sym fault) (record { responds = tt; ready = tt; leaves = leaves-read m to first now only reads may.ready; idle = λ done. idle-same first now (reads.content may.ready.known.tells) })
         done-runs (Ok a) n kept rest k k-is answer fault only reads =
             let keeps = kept s.tables shown fresh-items s.keeps (by-ids c new made published first-is second-is shown p planned vs n) planned.in_order rows-are in
             let stands = kept-stands c new made published first-is second-is shown p planned vs n s.tables s.keeps s.backups fresh-items keeps (count_rows (entries_of vs)) rest in
@@ -263,4 +264,5 @@ module _ (c : ClusterState) (database new : List ℕ) (x : Chain) (layer : Layer
                   (ap (λ (y : Stepped). y.machine.jobs) is ∙ sym (ap (λ (y : Machine). y.jobs ++ Restore ∷ []) s.machine_is))
                   (ready-read m to first now reads may.ready);
               leaves = leaves-read m to first now only reads may.ready;
+              idle = λ done. idle-same first now (reads.content may.ready.known.tells);
             }

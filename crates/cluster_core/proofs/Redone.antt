@@ -1,6 +1,6 @@
 -- What a cluster and a ready disk are after RESTORE DATABASE.
-use Rattle.std.proofs.Common.{◌≡◌, ◌⊎◌, inl, inr, ⊎_elim, ℕ, ◌+◌, ◌≤◌, ◌<◌, ◌^◌, true, length, List, [], ◌∷◌, ◌++◌, map, Option, Some, None, slice_get, refl, sym, ap, ap₂, subst, ◌∙◌, arith, Result, Ok, Err}
-use Rattle.std.specs.Prelude.{IfErr, IfOk, OnOk}
+use Rattle.std.proofs.Common.{◌≡◌, inl, inr, ⊎_elim, ℕ, ◌+◌, ◌≤◌, true, length, List, [], ◌∷◌, ◌++◌, map, Some, slice_get, refl, sym, ap, subst, ◌∙◌, arith, Result, Ok, Err}
+use Rattle.std.specs.Prelude.{IfErr, OnOk}
 use Rattle.std.specs.Global.{Vec}
 use Rattle.std.specs.List.{AllByRecursion, range_with_len}
 use Rattle.std.proofs.lemmas.List.{length-map}
@@ -8,22 +8,16 @@ use Rattle.mvcc_keys.specs.Times.{IsTime, Time, next, time_le, time_lt}
 use Rattle.mvcc_keys.specs.declared.entries.Entry.{Entry}
 use Rattle.table_descriptors.specs.declared.changes.Change.TheVariants.{Become}
 use Rattle.table_descriptors.specs.declared.columns.State.TheVariants.{Public}
-use Rattle.table_descriptors.specs.Descriptors.{IsProperSchema, Schema, changed_schema}
+use Rattle.table_descriptors.specs.Descriptors.{Schema, changed_schema}
 use Rattle.fact_model.specs.Facts.{Has}
-use Rattle.fact_model.proofs.Members.{has-append_cases}
 use Rattle.fact_model.proofs.TimeLaws.{le-from_lt, lt-trans}
 use Rattle.history_model.specs.Rows.{RowItem}
 use Rattle.history_model.specs.Histories.{Table}
-use Rattle.history_model.specs.Layers.{Layer}
 use Rattle.schema_catalog.specs.Catalogs.{next_id}
 use Rattle.layer_objects.specs.Past.{KeepsPast}
-use Rattle.layer_manifest.specs.declared.manifest.Manifest.{Manifest}
-use Rattle.layer_model.specs.declared.names.LayerName.{LayerName}
-use Rattle.layer_book.specs.Books.{Book}
 use Rattle.id_remap.specs.declared.targets.Target.TheVariants as target
 use Rattle.id_remap.specs.Remapping.{ids_of, new_ids, remapped_schema}
 use Rattle.machine_model.specs.Machine.{Backup, Job, Machine, Restore}
-use Rattle.machine_model.specs.Machine as machine
 use Rattle.reply_texts.specs.declared.answers.Answer.{Answer}
 use Rattle.cluster_core.specs.declared.halts.Halt.{Halt}
 use Rattle.cluster_core.specs.declared.halts.Halt.TheVariants.{Refused, Disk, Memory}

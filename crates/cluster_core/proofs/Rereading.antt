@@ -1,5 +1,5 @@
 -- A layer in the book that stands on a ready disk, and the rows that are read of it.
-use Rattle.std.proofs.Common.{◌≡◌, inl, inr, ⊎_elim, ℕ, ◌+◌, ◌-◌, ◌<◌, ◌≤◌, ◌^◌, Bool, true, false, nat_lt, if◌then◌else◌, refl, sym, ap, ◌∙◌, subst, subst₂, arith, List, [], ◌∷◌, length, map, filter_map, Option, Some, None, option_map, option_to_list, slice_get, unwrap_or}
+use Rattle.std.proofs.Common.{◌≡◌, inl, inr, ⊎_elim, ℕ, ◌+◌, ◌-◌, ◌<◌, ◌≤◌, ◌^◌, Bool, true, false, nat_lt, if◌then◌else◌, refl, sym, ap, ◌∙◌, subst, subst₂, arith, List, [], ◌∷◌, length, map, Option, Some, None, option_map, option_to_list, slice_get, unwrap_or}
 use Rattle.std.specs.Global.{Vec}
 use Rattle.std.specs.List.{AllByRecursion}
 use Rattle.std.specs.Prelude.{reverse}
@@ -18,13 +18,12 @@ use Rattle.fact_model.specs.Scans.{scan}
 use Rattle.history_model.specs.Rows.{RowFact, RowItem}
 use Rattle.history_model.specs.Histories.{Table, accepted, in_force, key_order, schemas_of}
 use Rattle.history_model.specs.Layers.{Layer}
-use Rattle.schema_catalog.specs.Catalogs.{Schemas, history_of, next_id}
+use Rattle.schema_catalog.specs.Catalogs.{history_of, next_id}
 use Rattle.introduced_spans.specs.declared.plans.TablePlan.{TablePlan}
 use Rattle.introduced_spans.specs.PlanLaws.{ascend_after}
-use Rattle.introduced_spans.specs.Spans.{descriptors_of, plan_fault, scope_ids}
+use Rattle.introduced_spans.specs.Spans.{plan_fault}
 use Rattle.introduced_spans.proofs.Fulls.{full-is-whole}
 use Rattle.introduced_spans.proofs.Lists.{all-each}
-use Rattle.outside_world.specs.Disk.{View}
 use Rattle.outside_world.specs.Objects.{Objects}
 use Rattle.layer_manifest.specs.declared.manifest.Manifest.{Manifest}
 use Rattle.layer_manifest.specs.declared.manifest.TablePart.{TablePart}
@@ -32,15 +31,15 @@ use Rattle.layer_model.specs.declared.names.LayerName.{LayerName}
 use Rattle.layer_model.specs.declared.names.Part.TheVariants.{Chunk}
 use Rattle.layer_model.specs.Layers as stored
 use Rattle.backup_job.specs.Contents.{layer_descriptors, part_of}
-use Rattle.layer_objects.specs.Objects.{bare, by_id, described, name_of, objects_of, plan_of, table_facts, table_threshold}
+use Rattle.layer_objects.specs.Objects.{by_id, described, objects_of, plan_of, table_facts, table_threshold}
 use Rattle.layer_objects.specs.Past.{KeepsPast}
-use Rattle.layer_objects.specs.Storable.{AreStorable, IsFull, IsSized, IsStorable, MayBeWritten, manifest_of}
+use Rattle.layer_objects.specs.Storable.{AreStorable, IsFull, IsStorable, MayBeWritten, manifest_of}
 use Rattle.layer_objects.proofs.Final.{reverse-has}
 use Rattle.layer_objects.proofs.Writable.{layers-written, manifests-tell}
 use Rattle.layer_rows.specs.Putting.{IsItem}
 use Rattle.machine_model.specs.Machine.{Backup}
 use Rattle.machine_model.specs.Disks.{IsThere}
-use Rattle.machine_model.specs.Restores.{chosen_tables, count_to_restore, rows_to_restore}
+use Rattle.machine_model.specs.Restores.{chosen_tables, rows_to_restore}
 use Rattle.cluster_core.specs.ClusterView.{ClusterState, record_of}
 use Rattle.cluster_core.specs.Standing.{HasBackups, Keeps}
 use Rattle.cluster_core.specs.Chains as chains

@@ -1,5 +1,5 @@
 -- A restore's tables, added one after another.
-use Rattle.std.proofs.Common.{◌≡◌, inl, inr, ℕ, zero, suc, ◌+◌, ◌-◌, ◌<◌, ◌≤◌, ◌^◌, nat_eq, nat_lt, Bool, true, false, ◌&&◌, if◌then◌else◌, refl, sym, ap, ◌∙◌, subst, arith, List, [], ◌∷◌, ◌++◌, map, length, Option, Some, None, slice_get, slice_set, unwrap_or}
+use Rattle.std.proofs.Common.{◌≡◌, inl, inr, ℕ, ◌+◌, ◌-◌, ◌<◌, ◌≤◌, ◌^◌, nat_eq, nat_lt, Bool, true, false, ◌&&◌, if◌then◌else◌, refl, sym, ap, ◌∙◌, subst, arith, List, [], ◌∷◌, ◌++◌, map, length, Option, Some, None, slice_get, slice_set, unwrap_or}
 use Rattle.std.specs.List.{AllByRecursion, range_with_len}
 use Rattle.std.specs.Map.{lookup}
 use Rattle.std.proofs.lemmas.Bool.Decides.{nat_tests}
@@ -12,14 +12,12 @@ use Rattle.table_descriptors.specs.declared.changes.Change.TheVariants.{Become}
 use Rattle.table_descriptors.specs.declared.columns.State.TheVariants.{Public}
 use Rattle.table_descriptors.specs.Descriptors.{Schema, changed_schema, key_kinds}
 use Rattle.table_descriptors.specs.Restoring.{restored_schema}
-use Rattle.fact_model.specs.Facts.{Has, date}
+use Rattle.fact_model.specs.Facts.{Has}
 use Rattle.fact_model.proofs.TimeLaws.{le-refl, le-from_lt, le-trans, lt-weaker}
-use Rattle.row_codec.proofs.KeyOrder.{both_true}
 use Rattle.history_model.specs.Rows.{RowFact, RowItem}
 use Rattle.history_model.specs.Histories.{Table, in_force}
 use Rattle.introduced_spans.specs.PlanLaws.{ascend_after}
 use Rattle.version_store.specs.MapHolding.{KeepsAll}
-use Rattle.version_store.specs.declared.mvcc_map.MvccMap.{MvccMap}
 use Rattle.table_rows.specs.RowTables.{HasRows, RowTables, with_facts}
 use Rattle.layer_objects.specs.Objects.{by_id, rows_of, table_facts, table_kinds, table_threshold}
 use Rattle.layer_objects.specs.Storable.{IsSized}
@@ -34,7 +32,7 @@ use Rattle.machine_model.specs.Restores.{put_anew, restored_table, rows_to_resto
 use Rattle.machine_model.specs.Tables.{new_table}
 use Rattle.cluster_core.specs.ClusterView.{AreWithin, ClusterState}
 use Rattle.cluster_core.specs.Standing.{IsOwn, IsOrderly, Keeps}
-use Rattle.cluster_core.specs.Restoring.{AreRowsFor, AreRowsFrom, AreRowsOf, AreStoredRows, HasRoomFor, IsAdding, IsFirst, count_rows, made_table, made_tables, with_added}
+use Rattle.cluster_core.specs.Restoring.{AreRowsFor, AreRowsFrom, AreRowsOf, HasRoomFor, IsAdding, IsFirst, count_rows, made_table, made_tables, with_added}
 use Rattle.cluster_core.proofs.Tables.{by_id-at, rows-more, rows-new}
 use Rattle.cluster_core.proofs.Kept.{keeps-as, keeps-push, next-later, zero-least}
 use Rattle.cluster_core.proofs.Adding.{map-dated}

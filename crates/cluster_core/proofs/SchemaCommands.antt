@@ -11,7 +11,7 @@ use Rattle.history_model.specs.Histories.{Table, Found}
 use Rattle.schema_catalog.specs.declared.faults.CatalogFault.{CatalogFault}
 use Rattle.schema_catalog.specs.Catalogs.{Schemas, database_fault, with_database, table_fault, next_id, first_schema, with_table, change_fault, drop_fault, dropped, with_descriptor}
 use Rattle.reply_texts.specs.declared.refusals.Refusal.{Refusal}
-use Rattle.reply_texts.specs.declared.refusals.Refusal.TheVariants.{ClockFull, NoSuchTable}
+use Rattle.reply_texts.specs.declared.refusals.Refusal.TheVariants.{NoSuchTable}
 use Rattle.reply_texts.specs.declared.answers.Answer.TheVariants.{Plain, TableMade, TableChanged}
 use Rattle.reply_texts.specs.declared.replies.Response.{Response}
 use Rattle.machine_model.specs.Machine.{answered, judged, offline_refusal, catalog_of}

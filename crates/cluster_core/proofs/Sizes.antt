@@ -1,12 +1,12 @@
 -- What was tested for its size takes no more bytes than a layer can hold.
-use Rattle.std.proofs.Common.{inl, inr, ◌≡◌, ℕ, ◌+◌, ◌≤◌, ◌<◌, Bool, true, false, ◌||◌, nat_lt, refl, sym, ap, ◌∙◌, arith, List, [], ◌∷◌, map, length, Option, Some, None, option_map, if◌then◌else◌}
+use Rattle.std.proofs.Common.{inl, inr, ◌≡◌, ℕ, ◌+◌, ◌≤◌, Bool, true, false, nat_lt, refl, sym, ap, ◌∙◌, arith, List, [], ◌∷◌, map, length, Option, Some, None, if◌then◌else◌}
 use Rattle.std.proofs.lemmas.Bool.{cases_Bool}
 use Rattle.std.proofs.lemmas.Bool.Decides.{nat_tests}
 use Rattle.mvcc_keys.specs.Times.{Time, IsTime}
 use Rattle.row_codec.specs.declared.rows.Datum.{Datum}
 use Rattle.row_codec.specs.RowValues.{row_value}
 use Rattle.table_descriptors.specs.Descriptors.{Schema, key_kinds}
-use Rattle.fact_model.specs.Facts.{Put, Del, DelRange, Has}
+use Rattle.fact_model.specs.Facts.{Del, DelRange, Has}
 use Rattle.history_model.specs.Rows.{Key, RowFact, cells_in, key_of, put_of}
 use Rattle.history_model.specs.RowTests.{columns_len, first_number, is_large_key, is_large_row, is_empty_range, large_key, large_row, wrong_row, wrong_key, repeated_row, repeated_key}
 use Rattle.table_rows.specs.declared.faults.RowsFault.{RowsFault}

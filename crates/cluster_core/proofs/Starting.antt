@@ -1,12 +1,10 @@
 -- RESTORE DATABASE up to its chain.
-use Rattle.std.proofs.Common.{◌≡◌, ◌⊎◌, inl, inr, ℕ, List, [], map, Option, Some, None, unwrap_or, refl, sym, ap, subst, ◌∙◌, Result, Ok, Err}
+use Rattle.std.proofs.Common.{◌≡◌, ◌⊎◌, inl, inr, ℕ, List, map, Option, Some, None, unwrap_or, refl, sym, ap, subst, ◌∙◌, Result, Err}
 use Rattle.mvcc_keys.specs.Times.{Time, next}
 use Rattle.history_model.specs.Histories.{Table}
-use Rattle.history_model.specs.Layers.{Layer}
 use Rattle.outside_world.specs.Disk.{View, IsImage, IsKnown}
 use Rattle.outside_world.specs.Objects.{Objects}
 use Rattle.script_grammar.specs.declared.backups.Src.{Src}
-use Rattle.reply_texts.specs.declared.refusals.Refusal.{Refusal}
 use Rattle.reply_texts.specs.declared.refusals.Refusal.TheVariants.{ClockFull}
 use Rattle.reply_texts.specs.declared.answers.Answer.{Answer}
 use Rattle.machine_model.specs.Machine.{Machine, Stepped, refused, with_time}
@@ -16,7 +14,7 @@ use Rattle.cluster_core.specs.declared.halts.Halt.{Halt}
 use Rattle.cluster_core.specs.declared.halts.Halt.TheVariants.{Refused, Disk, Memory}
 use Rattle.cluster_core.specs.declared.chains.Chain.{Chain}
 use Rattle.cluster_core.specs.ClusterView.{ClusterState, record_of}
-use Rattle.cluster_core.specs.Standing.{MayStep, Runs, StandsFor, machine_of}
+use Rattle.cluster_core.specs.Standing.{MayStep, Runs, machine_of}
 use Rattle.cluster_core.specs.Chains.{IsChain, IsChainFault, with_chain}
 use Rattle.cluster_core.specs.Restores.{IsFullTwice}
 use Rattle.cluster_core.proofs.BackingUp.{halted-runs}

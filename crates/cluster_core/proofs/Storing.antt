@@ -1,17 +1,16 @@
 -- A full layer that is written over a ready disk: what the cluster and the disk are afterwards.
-use Rattle.std.proofs.Common.{◌≡◌, ◌≢◌, ◌⊎◌, inl, inr, ⊎_elim, ℕ, zero, suc, ◌+◌, ◌<◌, ◌≤◌, true, false, List, [], ◌∷◌, ◌++◌, map, length, Option, Some, None, slice_get, refl, sym, ap, subst, ◌∙◌, arith, Contains, Result, Ok, Err, append_assoc}
-use Rattle.std.specs.Prelude.{IfErr, OnOk}
+use Rattle.std.proofs.Common.{◌≡◌, ◌≢◌, ◌⊎◌, inl, inr, ⊎_elim, ℕ, zero, suc, ◌<◌, ◌≤◌, true, false, List, [], ◌∷◌, ◌++◌, map, length, Some, slice_get, refl, sym, ap, subst, ◌∙◌, arith, Contains, Result}
+use Rattle.std.specs.Prelude.{IfErr}
 use Rattle.std.proofs.lemmas.List.{map-append}
-use Rattle.mvcc_keys.specs.Times.{Time, time_le, time_lt}
+use Rattle.mvcc_keys.specs.Times.{Time, time_le}
 use Rattle.table_descriptors.specs.declared.scopes.Scope.{Scope}
 use Rattle.fact_model.specs.Facts.{Has}
 use Rattle.fact_model.proofs.Members.{has-append_cases, map-has}
 use Rattle.fact_model.proofs.TimeLaws.{le-refl, le-trans}
 use Rattle.history_model.specs.Histories.{Table}
 use Rattle.history_model.specs.Layers as recorded
-use Rattle.outside_world.specs.Disk.{View, IsImage, IsKnown}
-use Rattle.outside_world.specs.Moments.{ChangesOnly, InEachImage, LeavesOnly, NoName}
-use Rattle.outside_world.specs.Objects.{Objects}
+use Rattle.outside_world.specs.Disk.{View}
+use Rattle.outside_world.specs.Moments.{ChangesOnly, NoName}
 use Rattle.outside_world.proofs.Runs.{as_read}
 use Rattle.version_store.specs.Tables.{Tables}
 use Rattle.table_rows.specs.RowTables.{bytes_of}
@@ -19,34 +18,30 @@ use Rattle.layer_manifest.specs.declared.manifest.Manifest.{Manifest}
 use Rattle.layer_manifest.specs.ManifestFiles.{manifest_code}
 use Rattle.layer_manifest.specs.Manifests.{chunk_count}
 use Rattle.layer_model.specs.declared.names.LayerName.{LayerName}
-use Rattle.layer_model.specs.declared.names.Part.TheVariants as part
 use Rattle.layer_model.specs.Names.{IsLayerName}
 use Rattle.layer_model.specs.Layers.{IsLayer, IsPartName, Layer}
-use Rattle.layer_model.specs.Stands.{Setting}
 use Rattle.collection_dir.specs.declared.fault.DirFault.{DirFault}
 use Rattle.collection_dir.specs.Faults.{IsDiskFault}
-use Rattle.collection_dir.specs.Standing.{StandsInEither}
 use Rattle.collection_dir.specs.Versions.{first_version}
 use Rattle.backup_job.specs.Jobs.{IsAbout, Job, IsSameJob, MayRun, completed, written}
 use Rattle.backup_job.specs.Whole.{IsAmong, IsWriting, IsWritten, RunWrites}
 use Rattle.backup_job.proofs.Starts.{bare_count}
 use Rattle.layer_objects.specs.Objects.{described, name_of, objects_of, plan_of, rows_of}
 use Rattle.layer_objects.specs.Past.{KeepsPast}
-use Rattle.layer_objects.specs.Storable.{IsFull, job_of, manifest_of, older_manifest}
+use Rattle.layer_objects.specs.Storable.{manifest_of, older_manifest}
 use Rattle.layer_objects.proofs.Writable.{manifests-tell}
-use Rattle.layer_book.specs.Books.{with_layer}
 use Rattle.machine_model.specs.Machine.{Backup, Machine, Stepped, answered}
 use Rattle.machine_model.specs.Machine as machine
 use Rattle.machine_model.specs.Past.{IsLater}
 use Rattle.machine_model.specs.Backups.{backup_done, full_layer, with_backup as with_made}
-use Rattle.machine_model.specs.Disks.{AreKept, IsGone, IsReady, IsThere, StandsUntil, made_layers, setting_of}
+use Rattle.machine_model.specs.Disks.{IsGone, IsReady, IsThere, StandsUntil, made_layers, setting_of}
 use Rattle.machine_model.proofs.DiskLaws.{ready_images}
 use Rattle.machine_model.proofs.Settings.{is-made, settings-proper}
 use Rattle.cluster_core.specs.ClusterView.{ClusterState, record_of}
 use Rattle.cluster_core.specs.Standing.{HasBackups, IsBooked, IsOwnBackup, Keeps, StandsFor, machine_of}
 use Rattle.cluster_core.specs.Backing.{IsFullJob, done_of, with_backup, with_job}
 use Rattle.cluster_core.proofs.Kept.{keeps-as}
-use Rattle.cluster_core.proofs.Lists.{got-front, got-push}
+use Rattle.cluster_core.proofs.Lists.{got-push}
 use Rattle.cluster_core.proofs.Others.{IsSameOf, final, same-of-other, still-gone, still-there}
 
 -- ---- lists

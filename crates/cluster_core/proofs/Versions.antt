@@ -1,5 +1,5 @@
 -- Versions stay within the number of descriptors that were made, so a next version can be.
-use Rattle.std.proofs.Common.{◌≡◌, ◌⊎◌, inl, inr, ℕ, zero, suc, ◌+◌, ◌-◌, ◌≤◌, nat_lt, refl, sym, ap, subst, arith, List, [], ◌∷◌, ◌++◌, Option, Some, None, unwrap_or, slice_get, slice_set}
+use Rattle.std.proofs.Common.{◌≡◌, ◌⊎◌, inl, inr, ℕ, zero, suc, ◌-◌, ◌≤◌, nat_lt, refl, sym, ap, subst, arith, List, [], ◌∷◌, ◌++◌, Option, Some, None, unwrap_or, slice_get, slice_set}
 use Rattle.std.proofs.lemmas.Bool.{cases_Bool}
 use Rattle.mvcc_keys.specs.Times.{Time}
 use Rattle.table_descriptors.specs.Descriptors.{Schema}

@@ -1,8 +1,7 @@
 -- What the steps of BACKUP and of FORGET find and leave.
-use Rattle.std.specs.Prelude.{◌≡◌, ◌≤◌, ℕ, ◌+◌, ◌<◌, List, [], ◌∷◌, ◌++◌, length, Option, Some, None, Result, Ok, Err}
+use Rattle.std.specs.Prelude.{◌≡◌, ℕ, List, [], ◌∷◌, ◌++◌, Option, Some, None, Result, Ok, Err}
 use Rattle.mvcc_keys.specs.Times.{Time, next, time_lt}
 use Rattle.table_descriptors.specs.declared.scopes.Scope.{Scope}
-use Rattle.history_model.specs.Histories.{Table}
 use Rattle.layer_manifest.specs.declared.manifest.Manifest.{Manifest}
 use Rattle.layer_manifest.specs.Manifests.{chunk_count}
 use Rattle.layer_model.specs.declared.names.LayerName.{LayerName}
@@ -22,7 +21,7 @@ use Rattle.machine_model.specs.Backups.{end_refusal, full_layer, plan_refusal, s
 use Rattle.cluster_core.specs.declared.halts.Halt.{Halt}
 use Rattle.cluster_core.specs.declared.halts.Halt.TheVariants.{Refused, Disk, Memory}
 use Rattle.cluster_core.specs.ClusterView.{ClusterState, record_of}
-use Rattle.cluster_core.specs.Standing.{Keeps, RefusedBy, StandsFor, machine_of}
+use Rattle.cluster_core.specs.Standing.{RefusedBy, StandsFor}
 
 -- ---- the end of a backup
 

@@ -1,5 +1,5 @@
 -- The machine for which a cluster stands.
-use Rattle.std.specs.Prelude.{◌≡◌, ◌≢◌, ℕ, ◌+◌, ◌-◌, ◌^◌, ◌≤◌, true, nat_lt, List, [], ◌∷◌, slice_get, map, length, Option, Some, option_map, unwrap_or, if◌then◌else◌, Result, Ok, Err, MatchResult}
+use Rattle.std.specs.Prelude.{◌≡◌, ◌≢◌, ℕ, ◌+◌, ◌-◌, ◌^◌, ◌≤◌, true, List, [], slice_get, map, length, Option, Some, Result, Ok, Err, MatchResult}
 use Rattle.mvcc_keys.specs.Times.{Time, zero_time, time_le}
 use Rattle.row_codec.specs.declared.rows.Kind.{Kind}
 use Rattle.table_descriptors.specs.Descriptors.{Schema, key_kinds}
@@ -9,7 +9,7 @@ use Rattle.history_model.specs.Histories.{Table, schemas_of, accepted}
 use Rattle.history_model.specs.Layers.{Layer}
 use Rattle.introduced_spans.specs.PlanLaws.{ascend_after}
 use Rattle.version_store.specs.MapHolding.{KeepsAll}
-use Rattle.table_rows.specs.RowTables.{RowTables, HasRows}
+use Rattle.table_rows.specs.RowTables.{HasRows}
 use Rattle.layer_manifest.specs.declared.manifest.Manifest.{Manifest}
 use Rattle.layer_manifest.specs.Manifests.{IsProperManifest, chunk_count}
 use Rattle.layer_manifest.specs.ManifestFiles.{manifest_code}
@@ -27,7 +27,7 @@ use Rattle.outside_world.specs.Disk.{View}
 use Rattle.outside_world.specs.Moments.{LeavesOnly}
 use Rattle.layer_model.specs.declared.names.Part.{Part}
 use Rattle.layer_model.specs.Names.{object_name}
-use Rattle.machine_model.specs.Disks.{IsReady, StandsUntil}
+use Rattle.machine_model.specs.Disks.{IsDone, IsIdle, IsReady, StandsUntil}
 use Rattle.machine_model.specs.Past.{IsLater}
 use Rattle.machine_model.specs.Machine.{Backup, Job, Machine, Stepped, refused}
 use Rattle.cluster_core.specs.declared.halts.Halt.{Halt}
@@ -143,11 +143,12 @@ IsReadyAfter (Err (Refused refusal)) m end v = IsReady (Some m) (Some end) v
 IsReadyAfter (Err Disk) m end v = Unit {0}
 IsReadyAfter (Err Memory) m end v = Unit {0}
 
--- What a command does over a disk that was ready: by its step, and on the way to the end.
+-- What a command does over a disk that was ready: by its step, and on the way to the end. Where all layers of the script are done, it does nothing to the disk.
 pub record Runs (c : ClusterState) (s : Stepped) (end : Machine) (result : Result Answer Halt) (old new : View) : Type 0 where
   pub responds : Responds c s result
   pub ready : IsReadyAfter result s.machine end new
   pub leaves : LeavesOnly old new (StandsUntil (Some end))
+  pub idle : IsDone end old.objects → IsIdle old new
 
 -- the cluster stands for the machine, the disk is ready, and the end is one to which this step leads
 pub record MayStep (c : ClusterState) (m : Machine) (s : Stepped) (end : Machine) (v : View) : Type 0 where

@@ -8,7 +8,7 @@ use Rattle.outside_world.specs.Disk.{View}
 use Rattle.outside_world.specs.Moments.{LeavesOnly}
 use Rattle.command_lang.specs.declared.command.Command.{Command}
 use Rattle.command_lang.specs.declared.command.Command.TheVariants.{BackupDatabase, BackupTables, Forget, RestoreDatabase}
-use Rattle.machine_model.specs.Disks.{IsReady, StandsUntil}
+use Rattle.machine_model.specs.Disks.{IsDone, IsIdle, IsReady, StandsUntil}
 use Rattle.machine_model.specs.Machine.{Machine, Stepped}
 use Rattle.cluster_core.specs.declared.fault.RunFault.{RunFault}
 use Rattle.cluster_core.specs.declared.fault.RunFault.TheVariants.{Disk, Memory, Ended}
@@ -37,11 +37,12 @@ pub record RunHasCause {T : Type 0} (before now : ℕ) (result : Result T RunFau
   pub capped : before ≤ 2 ^ 64 - 1 → now ≤ 2 ^ 64 - 1
   pub counts : MatchResult result (λ _. now ≡ before) (λ e. CountsAs e before now)
 
--- What a step does over a disk that was ready: by the machine's step, and on the way to the end.
+-- What a step does over a disk that was ready: by the machine's step, and on the way to the end. Where all layers of the script are done, it does nothing to the disk.
 pub record Steps (c : ClusterState) (s : Stepped) (end : Machine) (result : Result Reply RunFault) (old new : View) : Type 0 where
   pub replied : IfOk result (λ r. IsReplied c r s)
   pub ready : OnOk result (IsReady (Some s.machine) (Some end) new)
   pub leaves : LeavesOnly old new (StandsUntil (Some end))
+  pub idle : IsDone end old.objects → IsIdle old new
 
 -- a command that may call the disk
 abbrev pub is_of_disk : Command → Bool

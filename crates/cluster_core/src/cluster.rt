@@ -6,6 +6,7 @@ ghost use Rattle.machine_model.specs.Machine.{World, Machine, empty_machine};
 ghost use Rattle.machine_model.specs.Tables.{tick};
 ghost use Rattle.machine_model.specs.Step.{step};
 ghost use Rattle.cluster_core.specs.declared.fault.RunFault.TheVariants as fault;
+ghost use Rattle.cluster_core.specs.declared.halts.Halt.TheVariants as halt;
 ghost use Rattle.cluster_core.specs.Standing.{Does, HaltHasCause, IsOwnName, LeavesRest, MayStep, Runs, StandsFor};
 ghost use Rattle.cluster_core.specs.Backing.{StandsStill};
 ghost use Rattle.cluster_core.specs.Stepping.{RunHasCause, Steps, is_of_disk};
@@ -217,6 +218,7 @@ impl Cluster {
         ensures changes { ChangesOnly (IsOwnName self.old.name) (IsOwnName self.old.name) (D.view disk.old) (D.view disk.new) }
         ensures steps { self.new.steps ≡ self.old.steps }
         ensures cause { HaltHasCause (D.view disk.old).faults (D.view disk.new).faults result }
+        ensures disk { IfErr result (λ e. e ≡ halt.Disk → is_of_disk command.now ≡ true) }
     {
         match self.execute_here(command) {
             Some(done) => done,
@@ -236,6 +238,7 @@ impl Cluster {
         ensures steps { self.new.steps ≡ self.old.steps }
         ensures fault { IfErr result (λ e. e ≢ fault.Ended) }
         ensures cause { RunHasCause (D.view disk.old).faults (D.view disk.new).faults result }
+        ensures disk { IfErr result (λ e. e ≡ fault.Disk → is_of_disk command.now ≡ true) }
     {
         let response = match self.execute(command, disk) {
             Ok(answer) => Response::Answered(answer),
@@ -261,6 +264,7 @@ impl Cluster {
         ensures ended { OnErr result (self.new.ended ≡ true) }
         ensures fault { IfErr result (λ e. (e ≡ fault.Ended) ↔ (self.old.ended ≡ true)) }
         ensures cause { RunHasCause (D.view disk.old).faults (D.view disk.new).faults result }
+        ensures disk { IfErr result (λ e. e ≡ fault.Disk → is_of_disk command.now ≡ true) }
     {
         self.steps += 1;
         if self.ended {

@@ -31,7 +31,7 @@ use crate::halts::Halt;
 use crate::jobs::{Job, push_job};
 use crate::rows::check_room;
 use id_remap::{Target, remap};
-use key_rewriter::{IdMap, are_ascending};
+use key_rewriter::IdMap;
 use layer_manifest::Manifest;
 use layer_model::LayerName;
 use mvcc_keys::{Entry, Hlc, Items, Memory};
@@ -221,19 +221,7 @@ fn check_some(chosen: &[Descriptor]) -> Result<(), Halt>
     Ok(())
 }
 
-fn check_ascending(alloc: Global, chosen: &[Descriptor]) -> Result<(), Memory>
-    ensures { OnOk result (are_ascending (ids_of chosen.now) ≡ true) }
-{
-    let ids: Vec<u32> = chosen.iter().map(|d| d.id()).collect(alloc)?;
-    if are_ascending(&ids) {
-        Ok(())
-    } else {
-        Err(Memory)
-    }
-}
-
-/// Chosen tables under new ids, in a new database. Their ids ascend in each manifest; where they
-/// didn't, the answer would be want of memory.
+/// Chosen tables under new ids, in a new database. Their ids ascend in each manifest.
 fn planned(
     alloc: Global,
     chosen: Vec<Descriptor>,
@@ -241,11 +229,11 @@ fn planned(
     new: &Name,
     made: Hlc,
 ) -> Result<Plan, Halt>
+    requires { are_ascending (ids_of chosen.items) ≡ true }
     ensures planned { IfOk result (IsPlanned catalog.now new.now made chosen.items) }
     ensures refused { IfErr result (λ e. RefusedBy e (refusal_of_chosen catalog.now new.now made chosen.items [])) }
 {
     check_some(&chosen)?;
-    check_ascending(alloc, &chosen)?;
     let target = Target::Database {
         name: new.copy(alloc)?,
     };
@@ -298,6 +286,7 @@ impl Cluster {
         new: &Name,
         made: Hlc,
     ) -> Result<Plan, Halt>
+        requires { IsProperManifest m.now }
         ensures planned { IfOk result (IsPlanned self.now.schemas new.now made (shown_tables database.now time m.now)) }
         ensures refused { IfErr result (λ e. RefusedBy e (refusal_of_chosen self.now.schemas new.now made (shown_tables database.now time m.now) [])) }
     {

@@ -1,8 +1,7 @@
 -- The layers of a machine's jobs are those of a proper setting, and each that can be stored is among them.
-use Rattle.std.proofs.Common.{◌≡◌, ◌⊎◌, inl, inr, ⊎_elim, ℕ, zero, suc, ◌+◌, ◌<◌, ◌≤◌, ◌^◌, ◌==◌, Bool, true, false, ◌&&◌, nat_lt, nat_le, List, [], ◌∷◌, ◌++◌, length, Option, Some, None, refl, sym, ap, subst, ◌∙◌, arith, Contains, if◌then◌else◌}
+use Rattle.std.proofs.Common.{◌≡◌, ◌⊎◌, inl, inr, ⊎_elim, ℕ, zero, suc, ◌+◌, ◌≤◌, ◌^◌, ◌==◌, Bool, true, false, ◌&&◌, nat_lt, nat_le, List, [], ◌∷◌, length, Some, None, refl, sym, ap, subst, ◌∙◌, arith, Contains}
 use Rattle.std.specs.Prelude.{slice_get}
 use Rattle.std.specs.Str.{bytes_eq}
-use Rattle.std.proofs.lemmas.Bool.{cases_Bool}
 use Rattle.std.proofs.lemmas.Bool.Decides.{nat_tests}
 use Rattle.std.proofs.lemmas.List.Elements.{Contains-append_cases, Contains-append_left, Contains-append_right, Contains-push, Contains-push_cases}
 use Rattle.std.proofs.lemmas.Slice.Eq.{bytes_eq-Decides}
@@ -13,8 +12,8 @@ use Rattle.history_model.specs.Histories.{Table}
 use Rattle.history_model.specs.Layers as recorded
 use Rattle.layer_model.specs.declared.names.LayerName.{LayerName}
 use Rattle.layer_model.specs.Names.{IsLayerName}
-use Rattle.layer_model.specs.Layers.{IsLayer, Layer}
-use Rattle.layer_model.specs.Stands.{AreLayers, IsProper}
+use Rattle.layer_model.specs.Layers.{Layer}
+use Rattle.layer_model.specs.Stands.{IsProper}
 use Rattle.layer_objects.specs.Objects.{objects_of}
 use Rattle.machine_model.specs.Machine.{Backup, Job, Machine, Restore}
 use Rattle.machine_model.specs.Disks.{can_be_stored, is_named_for, is_time, kept_if, layers_from, made_layers, setting_of}
@@ -117,7 +116,7 @@ is-fit cluster job w f =
 -- ---- settings
 
 module _ (m : Machine) where
-  made : (w : Layer) → Contains (made_layers m) w → IsMade m.name m.history.tables 1 m.jobs w
+  pub made : (w : Layer) → Contains (made_layers m) w → IsMade m.name m.history.tables 1 m.jobs w
   unfolding made_layers
   made w h = made-of m.name m.history.tables 1 m.jobs w h
 

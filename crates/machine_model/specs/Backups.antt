@@ -1,12 +1,12 @@
 -- The commands on backups, one definition each. A backup makes a full layer without history; its job is run whole.
-use Rattle.std.specs.Prelude.{ℕ, ◌+◌, ◌-◌, Bool, true, false, not, ◌&&◌, ◌==◌, List, [], ◌∷◌, ◌++◌, length, map, filter, slice_get, Option, Some, None, option_and_then}
+use Rattle.std.specs.Prelude.{ℕ, ◌+◌, ◌-◌, Bool, false, not, ◌&&◌, List, [], ◌∷◌, ◌++◌, length, filter, slice_get, Option, Some, None, option_and_then}
 use Rattle.std.specs.List.{find, list_any}
 use Rattle.std.specs.Str.{bytes_eq}
 use Rattle.mvcc_keys.specs.Times.{Time, zero_time, time_le}
 use Rattle.table_descriptors.specs.declared.scopes.Scope.{Scope}
 use Rattle.table_descriptors.specs.declared.scopes.Scope.TheVariants.{Database, Tables}
 use Rattle.table_descriptors.specs.Descriptors.{Schema}
-use Rattle.history_model.specs.Histories.{Table, schemas_of, is_named}
+use Rattle.history_model.specs.Histories.{schemas_of, is_named}
 use Rattle.history_model.specs.Layers.{Layer}
 use Rattle.schema_catalog.specs.Catalogs.{Schemas, has_database, missing_fault, offline_fault}
 use Rattle.introduced_spans.specs.declared.plans.PlanFault.{PlanFault}
@@ -25,7 +25,7 @@ use Rattle.reply_texts.specs.declared.refusals.Refusal.{Refusal}
 use Rattle.reply_texts.specs.declared.refusals.Refusal.TheVariants.{NoSuchDatabase, NoSuchBackup, NoSuchLayer, EndNotAfter, StartCollected, Collected}
 use Rattle.reply_texts.specs.declared.answers.Answer.{Answer}
 use Rattle.reply_texts.specs.declared.answers.Answer.TheVariants.{Plain, BackupDone, BackupsShown}
-use Rattle.machine_model.specs.Machine.{Job, Backup, Machine, Stepped, catalog_of, answered, refused, refusal_if, judged, drawing}
+use Rattle.machine_model.specs.Machine.{Backup, Machine, Stepped, catalog_of, answered, refused, refusal_if, judged, drawing}
 use Rattle.machine_model.specs.Refusals.{catalog_refusal}
 use Rattle.machine_model.specs.TableRows.{future_refusal}
 

@@ -1,6 +1,7 @@
 -- A disk that stands for a script: what its objects may hold of the own cluster's layers, by the machine that the script ends in; and what it
 -- holds of them while a machine is on its way there.
-use Rattle.std.specs.Prelude.{◌≡◌, ◌⊎◌, ℕ, ◌+◌, ◌^◌, Bool, true, ◌&&◌, ◌==◌, nat_lt, nat_le, List, [], ◌∷◌, length, Option, Some, None, if◌then◌else◌}
+use Rattle.std.specs.Prelude.{◌≡◌, ◌⊎◌, ℕ, ◌+◌, ◌^◌, Bool, ◌&&◌, ◌==◌, nat_lt, nat_le, List, [], ◌∷◌, length, Option, Some, None, if◌then◌else◌}
+use Rattle.std.specs.List.{Contains}
 use Rattle.std.specs.Str.{bytes_eq}
 use Rattle.mvcc_keys.specs.Times.{Time}
 use Rattle.fact_model.specs.Facts.{Has as IsIn}
@@ -10,12 +11,14 @@ use Rattle.history_model.specs.Layers as recorded
 use Rattle.outside_world.specs.Disk.{View, IsKnown}
 use Rattle.outside_world.specs.Moments.{IsSettled}
 use Rattle.outside_world.specs.Objects.{Objects, at}
+use Rattle.layer_model.specs.declared.names.LayerName.{LayerName}
 use Rattle.layer_model.specs.declared.names.Part.{Part}
-use Rattle.layer_model.specs.Layers.{Has, Layer, name_of}
-use Rattle.layer_model.specs.Stands.{Setting}
+use Rattle.layer_model.specs.Names.{IsLayerName}
+use Rattle.layer_model.specs.Layers.{Has, IsOpen, Layer, name_of}
+use Rattle.layer_model.specs.Stands.{IsOpenName, Setting}
 use Rattle.collection_dir.specs.Safety.{IsWholeInEither}
 use Rattle.collection_dir.specs.Standing.{StandsInEither}
-use Rattle.layer_objects.specs.Objects.{objects_of}
+use Rattle.layer_objects.specs.Objects.{name_of as name_of_record, objects_of}
 use Rattle.layer_objects.specs.Storable.{older_manifest}
 use Rattle.machine_model.specs.Machine.{Backup, Job, Machine, Restore}
 
@@ -75,6 +78,19 @@ abbrev pub AreKeptIn : Option Machine → Option Machine → Objects → Type 0
 AreKeptIn (Some m) (Some end) objects = AreKept m end objects
 AreKeptIn m end objects = Unit {0}
 
+-- each layer that a script makes is open, and none of them is forgotten where it ends
+abbrev pub IsDone : Machine → Objects → Type 0
+IsDone end objects = (w : Layer) → Contains (made_layers end) w → IsOpen w objects × ((r : recorded.Layer) × IsIn r end.layers × (name_of_record r ≡ w.name))
+
+abbrev pub IsDoneIn : Option Machine → Objects → Type 0
+IsDoneIn None objects = Unit {0}
+IsDoneIn (Some end) objects = IsDone end objects
+
+-- no object was put or removed, and the disk wasn't asked to
+pub record IsIdle (old new : View) : Type 0 where
+  pub objects : new.objects ≡ old.objects
+  pub calls : new.calls ≡ old.calls
+
 -- Before a command, or after the last: the disk tells what it holds, is honest, has no touched name, its objects stand for a script that ends
 -- in one machine, and hold the layers of the other, which is on its way there.
 pub record IsReady (m end : Option Machine) (v : View) : Type 0 where
@@ -82,3 +98,17 @@ pub record IsReady (m end : Option Machine) (v : View) : Type 0 where
   pub settled : IsSettled v
   pub stands : StandsUntil end v.objects
   pub kept : AreKeptIn m end v.objects
+
+-- ---- laws
+
+-- a disk that is known and settled and holds no object is ready before every script
+abbrev pub EmptyIsReady : View → Type 0
+EmptyIsReady v = (end : Option Machine) → IsKnown v → IsSettled v → ((n : List ℕ) → at v.objects n ≡ None) → IsReady None end v
+
+-- Where a disk is ready at the end of a script, each open layer of the own cluster is one of the machine's.
+abbrev pub OpenLayersAreKept : View → Type 0
+OpenLayersAreKept v = (m : Machine) → IsReady (Some m) (Some m) v → (n : LayerName) → IsLayerName n → n.cluster ≡ m.name → IsOpenName n v.objects → (r : recorded.Layer) × IsIn r m.layers × (name_of_record r ≡ n)
+
+-- After a complete run that forgets nothing all layers are done.
+abbrev pub CompleteIsDone : View → Type 0
+CompleteIsDone v = (m : Machine) → IsReady (Some m) (Some m) v → ((r : recorded.Layer) → IsIn (Backup r) m.jobs → IsIn r m.layers) → IsDone m v.objects

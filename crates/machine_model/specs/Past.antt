@@ -1,12 +1,14 @@
 -- No command changes what was true up to the clock.
-use Rattle.std.specs.Prelude.{◌≡◌, true, List, ◌++◌, Option, Some, None}
+use Rattle.std.specs.Prelude.{◌≡◌, ◌⊎◌, ◌<◌, true, List, ◌++◌, length, Option, Some, None}
 use Rattle.mvcc_keys.specs.Times.{time_le}
+use Rattle.fact_model.specs.Facts.{Has as IsIn}
+use Rattle.history_model.specs.Layers.{Layer}
 use Rattle.layer_objects.specs.Past.{KeepsPast}
 use Rattle.command_lang.specs.declared.command.Command.{Command}
 use Rattle.machine_model.specs.Machine.{World, Job, Machine}
 use Rattle.machine_model.specs.Step.{step}
 
--- a later state of the same cluster
+-- a later state of the same cluster: what it has more of are later facts, further jobs, and layers of these
 pub record IsLater (old new : Machine) : Type 0 where
   pub name : new.name ≡ old.name
   pub limits : new.limits ≡ old.limits
@@ -14,6 +16,7 @@ pub record IsLater (old new : Machine) : Type 0 where
   pub tables : KeepsPast old.clock old.history.tables new.history.tables
   pub more : List Job
   pub jobs : new.jobs ≡ old.jobs ++ more
+  pub layers : (r : Layer) → IsIn r new.layers → IsIn r old.layers ⊎ (length old.jobs < r.job)
 
 -- the same, where there may be no cluster yet
 abbrev pub IsLaterIn : Option Machine → Option Machine → Type 0

@@ -1,5 +1,5 @@
 -- RESTORE DATABASE: its tests, and what it makes. Its rows are those of a past scan of the cluster's own tables.
-use Rattle.std.specs.Prelude.{ℕ, ◌+◌, ◌-◌, Bool, false, ◌&&◌, nat_eq, List, [], ◌∷◌, ◌++◌, length, map, filter_map, sum_by, slice_get, Option, Some, None, option_and_then, unwrap_or, if◌then◌else◌}
+use Rattle.std.specs.Prelude.{ℕ, ◌-◌, Bool, false, ◌&&◌, nat_eq, List, [], ◌∷◌, ◌++◌, length, map, filter_map, sum_by, slice_get, Option, Some, None, option_and_then, unwrap_or, if◌then◌else◌}
 use Rattle.std.specs.Str.{bytes_eq}
 use Rattle.mvcc_keys.specs.Times.{Time, next, zero_time}
 use Rattle.table_descriptors.specs.declared.changes.Change.TheVariants.{Become}

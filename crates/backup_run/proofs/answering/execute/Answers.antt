@@ -39,4 +39,5 @@ returns-in_default g c = rw c.in-None.is (record {
   changes = only_none _;
   stepped = tt;
   cause = idle_cause _ _;
+  disk = tt;
 })

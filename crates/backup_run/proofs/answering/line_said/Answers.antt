@@ -1,5 +1,6 @@
 use Rattle.std.proofs.Common.{◌≡◌, sym, ap, ◌∙◌}
 use Rattle.std.specs.Prelude.{Bool}
+use Rattle.std.proofs.lemmas.Result.{IfErr-weaker}
 use Rattle.command_lang.specs.Lines.{Reads, reading}
 use Rattle.machine_model.specs.Script.{read_at}
 use Rattle.backup_run.proofs.Saying.{same-none}
@@ -35,3 +36,11 @@ returns-in-Ok-None-clause-leads g c = λ worlds m end may. still m end _ (g.met.
 
 pub returns-in_ok-malformed_said-in-Err-Wrong-clause-leads : goal.returns-in_ok-malformed_said-in-Err-Wrong-clause-leads
 returns-in_ok-malformed_said-in-Err-Wrong-clause-leads g c = λ worlds m end may. still m end _ (g.met.D.Disk.only_now c.args.disk.now) may.ready
+
+pub returns-in-Ok-Some-clause-disk : goal.returns-in-Ok-Some-clause-disk
+returns-in-Ok-Some-clause-disk g c =
+    let read = rw c.in-Ok-Some.field-0-is at c.in-Ok-Some.ensures in
+    IfErr-weaker c.command_said.result _ _ (λ e f no.
+    let met = f no in
+    record { command = c.in-Ok-Some.command; reads = ap (λ (first : Bool). reading first c.args.line.now) (sym met.0 ∙ sym c.is_first-first.ensures) ∙ read; of_disk = met.1 })
+    c.command_said.ensures.disk

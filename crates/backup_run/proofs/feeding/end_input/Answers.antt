@@ -8,7 +8,7 @@ use Rattle.backup_run.proofs.feeding.end_input.Goals as goal
 pub returns-in_err-said-clause-stopped : goal.returns-in_err-said-clause-stopped
 returns-in_err-said-clause-stopped g c =
     let p = err_from_is_err_and c.from_residual.result c.from_residual.ensures.1 in
-    rw (p.1, p.2) (end_outage _ _ _ _ c.args.session.now c.in_err-said.ensures.leads c.in_err-said.ensures.changes)
+    rw (p.1, p.2) (end_outage _ _ _ _ c.args.session.now c.in_err-said.ensures.disk c.in_err-said.ensures.leads c.in_err-said.ensures.changes)
 
 pub returns-in_err-write_all-clause-stopped : goal.returns-in_err-write_all-clause-stopped
 returns-in_err-write_all-clause-stopped g c =

@@ -8,7 +8,7 @@ use Rattle.backup_run.proofs.feeding.feed_byte.Goals as goal
 pub returns-in_err-said-clause-ended : goal.returns-in_err-said-clause-ended
 returns-in_err-said-clause-ended g c =
     let p = err_from_is_err_and c.from_residual.result c.from_residual.ensures.1 in
-    rw (p.1, p.2) (ended_outage _ _ _ _ c.args.session.now c.args.byte c.in_err-said.ensures.leads c.in_err-said.ensures.changes)
+    rw (p.1, p.2) (ended_outage _ _ _ _ c.args.session.now c.args.byte c.in_err-said.ensures.disk c.in_err-said.ensures.leads c.in_err-said.ensures.changes)
 
 pub returns-in_err-write_all-clause-ended : goal.returns-in_err-write_all-clause-ended
 returns-in_err-write_all-clause-ended g c =
@@ -30,4 +30,4 @@ returns-clause-fed g c =
     let said = c.in_ok-said.said in
     let wrote = c.in_ok-write_all.ensures.all ∙ ap (λ (t : List ℕ). told_before (g.K.Sink.held c.args.sink.now) t) c.deref.ensures.value in
     fed_byte _ _ _ _ c.args.session.now c.take_byte.new.self c.args.byte said.text.items wrote (λ worlds m more here. c.in_ok-said.ensures.goes_on worlds m more here c.if-said.false)
-    (c.in_ok-said.ensures.cleared c.if-said.false) (c.in_ok-said.ensures.quiet c.if-said.false) c.in_ok-said.ensures.leads c.in_ok-said.ensures.changes
+    (c.in_ok-said.ensures.cleared c.if-said.false) (c.in_ok-said.ensures.longer c.if-said.false) (c.in_ok-said.ensures.quiet c.if-said.false) c.in_ok-said.ensures.leads c.in_ok-said.ensures.changes

@@ -1,5 +1,6 @@
 use Rattle.std.proofs.Common.{◌≡◌, ◌∷◌, length, arith}
 use Rattle.std.proofs.lemmas.Bool.Decides.{nat_tests}
+use Rattle.std.proofs.lemmas.Result.{IfErr-weaker}
 use Rattle.backup_run.specs.SessionView.{view_of}
 use Rattle.backup_run.specs.Run.{at_of, outcome_of_rest}
 use Rattle.backup_run.proofs.Saying.{last_beyond, last_too_long, newline_last, newline_leads, newline_goes_on, byte_goes_on}
@@ -49,3 +50,6 @@ returns-clause-leads g c = λ worlds m more here. still m (outcome_of_rest world
 pub returns-then-byte-eq10-clause-leads : goal.returns-then-byte-eq10-clause-leads
 returns-then-byte-eq10-clause-leads g c = rw (← c.self.view_is) (λ worlds m more here.
     newline_leads worlds (view_of c.self.inside) _ _ m c.args.byte more c.if-self-eq0.false c.if-byte-eq10.true here (c.end_line.ensures.leads worlds m))
+
+pub returns-then-byte-eq10-clause-disk : goal.returns-then-byte-eq10-clause-disk
+returns-then-byte-eq10-clause-disk g c = rw (← c.self.view_is) (IfErr-weaker c.end_line.result _ _ (λ e f no. (c.if-byte-eq10.true, f no)) c.end_line.ensures.disk)

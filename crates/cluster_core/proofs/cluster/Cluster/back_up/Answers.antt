@@ -1,5 +1,5 @@
-use Rattle.std.proofs.Common.{refl, sym, ap, subst, ◌∙◌, Ok, Err}
-use Rattle.cluster_core.specs.ClusterView.{ClusterState, view_of}
+use Rattle.std.proofs.Common.{ap, ◌∙◌}
+use Rattle.cluster_core.specs.ClusterView.{ClusterState}
 use Rattle.cluster_core.specs.Backing.{with_backup, with_job}
 use Rattle.cluster_core.proofs.BackingUp.{done-runs, done-still, failed-still, fault-counts, fault-runs, few-chunks, memory-runs, own-changes, refused-runs, still-by}
 use Rattle.cluster_core.proofs.cluster.Cluster.back_up.Goals as goal

@@ -1,7 +1,7 @@
-use Rattle.std.proofs.Common.{None, [], ◌∷◌, sym, ap, subst, ◌∙◌}
+use Rattle.std.proofs.Common.{[], ◌∷◌, sym, ap, subst, ◌∙◌}
 use Rattle.table_descriptors.specs.declared.scopes.Scope.TheVariants.{Database}
 use Rattle.schema_catalog.specs.Catalogs.{Schemas}
-use Rattle.machine_model.specs.Machine.{Machine, catalog_of}
+use Rattle.machine_model.specs.Machine.{catalog_of}
 use Rattle.machine_model.specs.Backups.{absent_refusal, backup_database, full_backup}
 use Rattle.cluster_core.specs.ClusterView.{view_of}
 use Rattle.cluster_core.specs.Standing.{RefusedBy}

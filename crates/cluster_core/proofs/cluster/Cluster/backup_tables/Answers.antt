@@ -1,11 +1,9 @@
-use Rattle.std.proofs.Common.{None, [], ◌∷◌, refl, sym, ap, subst, ◌∙◌, arith, length, List}
+use Rattle.std.proofs.Common.{[], ◌∷◌, refl, sym, ap, subst, ◌∙◌, List}
 use Rattle.table_descriptors.specs.declared.scopes.Scope.TheVariants.{Tables}
 use Rattle.table_descriptors.specs.Descriptors.{Schema}
-use Rattle.table_descriptors.specs.Fields.{EachAfter}
 use Rattle.history_model.specs.Histories.{schemas_of}
 use Rattle.schema_catalog.specs.Catalogs.{Schemas, missing_fault, offline_fault}
-use Rattle.layer_manifest.specs.Manifests.{IsProperScope}
-use Rattle.machine_model.specs.Machine.{Machine, catalog_of}
+use Rattle.machine_model.specs.Machine.{catalog_of}
 use Rattle.machine_model.specs.Refusals.{catalog_refusal}
 use Rattle.machine_model.specs.Backups.{backup_tables, full_backup, ids_named}
 use Rattle.cluster_core.specs.ClusterView.{view_of}

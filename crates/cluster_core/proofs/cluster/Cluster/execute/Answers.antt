@@ -1,9 +1,8 @@
 use Rattle.std.proofs.Common.{[], refl, sym, subst}
-use Rattle.machine_model.specs.Machine.{World, Machine}
 use Rattle.machine_model.specs.Step.{step}
 use Rattle.cluster_core.specs.ClusterView.{ClusterState}
-use Rattle.cluster_core.specs.Standing.{MayStep, Runs}
-use Rattle.cluster_core.proofs.Here.{here-cause, here-runs, here-still}
+use Rattle.cluster_core.specs.Standing.{MayStep}
+use Rattle.cluster_core.proofs.Here.{here-cause, here-halts, here-runs, here-still}
 use Rattle.cluster_core.proofs.Past.{steps-later}
 use Rattle.cluster_core.proofs.cluster.Cluster.execute.Goals as goal
 
@@ -15,6 +14,9 @@ returns-in-Some-clause-stays g c = here-still c.args.self.now c.execute_here.new
 
 pub returns-in-Some-clause-cause : goal.returns-in-Some-clause-cause
 returns-in-Some-clause-cause g c = here-cause c.args.self.now c.execute_here.new.self (λ m. step [] m c.args.command.now) (λ m. steps-later [] m c.args.command.now) c.in-Some.ensures.rest c.in-Some.done (c.in-Some.ensures.step []) (g.D.Disk.view c.args.disk.now).faults
+
+pub returns-in-Some-clause-disk : goal.returns-in-Some-clause-disk
+returns-in-Some-clause-disk g c = here-halts c.args.self.now c.execute_here.new.self (λ m. step [] m c.args.command.now) (λ m. steps-later [] m c.args.command.now) c.in-Some.ensures.rest _ c.in-Some.done (c.in-Some.ensures.step [])
 
 pub returns-in-None-clause-step : goal.returns-in-None-clause-step
 returns-in-None-clause-step g c = λ worlds m end may. c.execute_on.ensures.step worlds m end (subst (λ (x : ClusterState). MayStep x m (step worlds m c.args.command.now) end (g.D.Disk.view c.args.disk.now)) (sym (c.in-None.ensures.same refl)) may)

@@ -1,4 +1,3 @@
-use Rattle.std.proofs.Common.{refl, ◌∙◌}
 use Rattle.cluster_core.proofs.Backing.{full-job}
 use Rattle.cluster_core.proofs.cluster.Cluster.full_job.Goals as goal
 

@@ -1,8 +1,8 @@
-use Rattle.std.proofs.Common.{◌≡◌, ap, subst, ◌∙◌, List, []}
+use Rattle.std.proofs.Common.{ap, subst, ◌∙◌, List}
 use Rattle.std.specs.Global.{Vec}
 use Rattle.std.specs.Prelude.{option_and_then}
 use Rattle.mvcc_keys.specs.declared.entries.Entry.{Entry}
-use Rattle.machine_model.specs.Restores.{count_to_restore, nothing_refusal, refusal_of_remap}
+use Rattle.machine_model.specs.Restores.{count_to_restore, refusal_of_remap}
 use Rattle.cluster_core.specs.Standing.{RefusedBy}
 use Rattle.cluster_core.specs.Restoring.{count_rows, entries_of}
 use Rattle.cluster_core.specs.Restores.{room_test}

@@ -1,5 +1,4 @@
 use Rattle.std.proofs.Common.{◌∙◌, ap, Err}
-use Rattle.machine_model.specs.Machine.{World, Machine}
 use Rattle.machine_model.specs.Step.{step}
 use Rattle.cluster_core.specs.declared.fault.RunFault.TheVariants as fault
 use Rattle.cluster_core.proofs.Replying.{answered, faulted, faulted-by, refused}

@@ -1,7 +1,7 @@
-use Rattle.std.proofs.Common.{sym, subst, ap, ◌∙◌, ◌≤◌, ◌^◌, ◌+◌, ◌<◌, ℕ, length, arith}
+use Rattle.std.proofs.Common.{subst, ◌≤◌, ◌^◌, ◌+◌, ◌<◌, ℕ, length, arith}
 use Rattle.std.specs.List.{AllByRecursion}
 use Rattle.table_descriptors.specs.Descriptors.{IsProperSchema}
-use Rattle.schema_catalog.specs.Catalogs.{Schemas, history_of, next_id}
+use Rattle.schema_catalog.specs.Catalogs.{history_of, next_id}
 use Rattle.cluster_core.specs.ClusterView.{ClusterState}
 use Rattle.cluster_core.proofs.Restored.{not-there}
 use Rattle.cluster_core.proofs.Redone.{done-still, room-for}

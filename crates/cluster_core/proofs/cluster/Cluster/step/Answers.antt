@@ -1,15 +1,15 @@
 use Rattle.std.proofs.Common.{◌+◌, Some, sym, subst}
-use Rattle.machine_model.specs.Machine.{Machine}
 use Rattle.machine_model.specs.Step.{step}
 use Rattle.machine_model.proofs.DiskLaws.{ready_leaves}
 use Rattle.cluster_core.specs.ClusterView.{ClusterState, view_of}
 use Rattle.cluster_core.specs.Standing.{MayStep, StandsFor}
+use Rattle.cluster_core.proofs.BackingUp.{idle-none}
 use Rattle.cluster_core.proofs.Here.{recounted}
 use Rattle.cluster_core.proofs.Replying.{may-recounted, stays-recounted, steps-recounted}
 use Rattle.cluster_core.proofs.cluster.Cluster.step.Goals as goal
 
 pub returns-then-self-clause-step : goal.returns-then-self-clause-step
-returns-then-self-clause-step g c = λ worlds m end may. record { replied = tt; ready = tt; leaves = ready_leaves (Some m) (Some end) (g.D.Disk.view c.args.disk.now) (g.met.D.Disk.only_now c.args.disk.now) may.ready }
+returns-then-self-clause-step g c = λ worlds m end may. record { replied = tt; ready = tt; leaves = ready_leaves (Some m) (Some end) (g.D.Disk.view c.args.disk.now) (g.met.D.Disk.only_now c.args.disk.now) may.ready; idle = λ done. idle-none _ }
 
 pub reply-done-requires-clause-stands : goal.reply-done-requires-clause-stands
 reply-done-requires-clause-stands g c = (c.requires.stands.0, recounted (view_of c.self.inside) (c.self.inside.steps + 1) c.self.inside.ended c.requires.stands.0 (subst (λ (x : ClusterState). StandsFor x c.requires.stands.0) (sym c.self.view_is) c.requires.stands.1))

@@ -1,4 +1,4 @@
-use Rattle.std.proofs.Common.{◌≡◌, ◌+◌, ◌-◌, ◌∷◌, ◌++◌, [], sym, ap, subst, ◌∙◌, arith, map, length, refl}
+use Rattle.std.proofs.Common.{◌≡◌, ◌+◌, ◌-◌, ◌∷◌, ◌++◌, [], sym, ap, ◌∙◌, arith, map, length}
 use Rattle.std.specs.List.{range_with_len}
 use Rattle.std.proofs.lemmas.List.{length-map}
 use Rattle.std.proofs.lemmas.List.FromFn.{map-range_with_len_more}
@@ -7,7 +7,6 @@ use Rattle.mvcc_keys.specs.Times.{zero_time}
 use Rattle.history_model.specs.Histories.{Table}
 use Rattle.introduced_spans.specs.Spans.{threshold_of}
 use Rattle.layer_objects.specs.Objects.{by_id, rows_of, table_threshold}
-use Rattle.cluster_core.specs.Standing.{Keeps}
 use Rattle.cluster_core.proofs.Names.{thresholds-are, told}
 use Rattle.cluster_core.proofs.cluster.Cluster.thresholds.Goals as goal
 
