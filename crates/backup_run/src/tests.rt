@@ -2,6 +2,7 @@
 ghost use Rattle.std.specs.Prelude.{None};
 
 mod backups;
+mod limits;
 mod orders;
 mod rows;
 mod schemas;

@@ -1,8 +1,9 @@
 //! Lines of backups and restores with columns that were worked out by hand, and what their commands
 //! say.
-use crate::tests::{COMMAND, is_table, right};
-use crate::{Command, Src, parse_line};
+use crate::tests::{COMMAND, command_in, is_table, right};
+use crate::{Command, Src, Tbl, parse_line};
 use mvcc_keys::Hlc;
+use table_descriptors::Name;
 
 const BACKUPS: &[(&[u8], usize)] = &[
     (b"BACKUP", 7),
@@ -119,44 +120,20 @@ fn lines_of_restores(rt: HostRuntime) {
     assert_eq!(rt; right(&rt, RESTORES, false), RESTORES.len());
 }
 
-#[test]
-fn backed_up_databases(rt: HostRuntime) {
-    let line = b"BACKUP DATABASE d INTO 'c' AS OF SYSTEM TIME '5.0000000007'";
-    let Ok(
-        Some(
-            Command::BackupDatabase {
-                database,
-                collection,
-                at,
-            },
-        ),
-    ) = parse_line(rt.alloc(), line, false)
-    else {
-        return assert!(rt; false);
-    };
-    assert!(rt; database.as_str() == "d" && collection.as_str() == "c" && at == Hlc::new(5, 7));
-}
+/// Lines of different commands, of which each says its own.
+const SAID: &[&[u8]] = &[
+    b"BACKUP DATABASE d INTO 'c' AS OF SYSTEM TIME '5.0000000007'",
+    b"BACKUP TABLE d.t, d.u, d.t INTO 'c'",
+    b"RESTORE DATABASE d FROM 'a/5.0000000007' IN 'c' AS OF SYSTEM TIME '6.0000000001' WITH new_db_name = 'e'",
+    b"FORGET BACKUP FROM LATEST IN 'c' LAYER '1.0000000002' TO '3.0000000004'",
+    b"SHOW BACKUPS IN 'c';",
+];
 
-#[test]
-fn backed_up_tables(rt: HostRuntime) {
-    let line = b"BACKUP TABLE d.t, d.u, d.t INTO 'c'";
-    let Ok(
-        Some(
-            Command::BackupTables {
-                tables,
-                collection,
-                at,
-            },
-        ),
-    ) = parse_line(rt.alloc(), line, false)
-    else {
-        return assert!(rt; false);
-    };
-    let [first, second] = tables.as_slice() else {
-        return assert!(rt; false);
-    };
-    assert!(rt; is_table(first, "d", "t") && is_table(second, "d", "u"));
-    assert!(rt; collection.as_str() == "c" && at.is_none());
+fn are_tables(tables: &[Tbl]) -> bool {
+    match tables {
+        [first, second] => is_table(first, "d", "t") && is_table(second, "d", "u"),
+        _ => false,
+    }
 }
 
 fn is_source(source: &Src, wanted: &str, time: Option<Hlc>) -> bool {
@@ -166,57 +143,66 @@ fn is_source(source: &Src, wanted: &str, time: Option<Hlc>) -> bool {
     }
 }
 
-#[test]
-fn restored_databases(rt: HostRuntime) {
-    let line =
-        b"RESTORE DATABASE d FROM 'a/5.0000000007' IN 'c' AS OF SYSTEM TIME '6.0000000001' WITH new_db_name = 'e'";
-    let Ok(
-        Some(
-            Command::RestoreDatabase {
-                database,
-                source,
-                collection,
-                at,
-                new_name,
-            },
-        ),
-    ) = parse_line(rt.alloc(), line, false)
-    else {
-        return assert!(rt; false);
-    };
-    assert!(rt; database.as_str() == "d" && is_source(&source, "a", Hlc::new(5, 7)));
-    assert!(rt; collection.as_str() == "c" && at == Hlc::new(6, 1));
-    match new_name {
-        Some(name) => assert!(rt; name.as_str() == "e"),
-        None => assert!(rt; false),
+fn is_new_name(name: &Option<Name>) -> bool {
+    match name {
+        Some(name) => name.as_str() == "e",
+        None => false,
+    }
+}
+
+/// Whether a command says what its line among those says.
+fn is_said(command: &Command) -> bool {
+    match command {
+        Command::BackupDatabase {
+            database,
+            collection,
+            at,
+        } => database.as_str() == "d" && collection.as_str() == "c" && *at == Hlc::new(5, 7),
+        Command::BackupTables {
+            tables,
+            collection,
+            at,
+        } => are_tables(tables.as_slice()) && collection.as_str() == "c" && at.is_none(),
+        Command::RestoreDatabase {
+            database,
+            source,
+            collection,
+            at,
+            new_name,
+        } => {
+            database.as_str() == "d"
+                && is_source(source, "a", Hlc::new(5, 7))
+                && collection.as_str() == "c"
+                && *at == Hlc::new(6, 1)
+                && is_new_name(new_name)
+        }
+        Command::Forget {
+            source,
+            collection,
+            start,
+            end,
+        } => {
+            matches!(source, Src::Latest)
+                && collection.as_str() == "c"
+                && Some(*start) == Hlc::new(1, 2)
+                && Some(*end) == Hlc::new(3, 4)
+        }
+        Command::ShowBackups { collection } => collection.as_str() == "c",
+        _ => false,
+    }
+}
+
+fn says(rt: &HostRuntime, line: &[u8]) -> bool {
+    let reading = parse_line(rt.alloc(), line, false);
+    match command_in(&reading) {
+        Some(command) => is_said(command),
+        None => false,
     }
 }
 
 #[test]
-fn forgotten_layers(rt: HostRuntime) {
-    let line = b"FORGET BACKUP FROM LATEST IN 'c' LAYER '1.0000000002' TO '3.0000000004'";
-    let Ok(
-        Some(
-            Command::Forget {
-                source,
-                collection,
-                start,
-                end,
-            },
-        ),
-    ) = parse_line(rt.alloc(), line, false)
-    else {
-        return assert!(rt; false);
-    };
-    assert!(rt; collection.as_str() == "c" && matches!(source, Src::Latest));
-    assert!(rt; Some(start) == Hlc::new(1, 2) && Some(end) == Hlc::new(3, 4));
-}
-
-#[test]
-fn shown_backups(rt: HostRuntime) {
-    let line = b"SHOW BACKUPS IN 'c';";
-    let Ok(Some(Command::ShowBackups { collection })) = parse_line(rt.alloc(), line, false) else {
-        return assert!(rt; false);
-    };
-    assert!(rt; collection.as_str() == "c");
+fn commands_on_layers_say_what_their_lines_say(rt: HostRuntime) {
+    for line in SAID {
+        assert!(rt; says(&rt, *line));
+    }
 }

@@ -3,6 +3,7 @@ use crate::{Command, LineFault, Tbl, parse_line};
 use mvcc_keys::Hlc;
 use row_codec::{Datum, Kind, Row};
 use std::alloc::Global;
+use table_descriptors::Name;
 
 pub(crate) const COMMAND: usize = 0;
 
@@ -10,13 +11,27 @@ const SKIPPED: usize = 99999;
 
 const NO_MEMORY: usize = 88888;
 
+/// What a line is read as.
+pub(crate) type Reading = Result<Option<Command>, LineFault>;
+
 /// The column at which a line is malformed.
-fn column(rt: &HostRuntime, line: &[u8], first: bool) -> usize {
-    match parse_line(rt.alloc(), line, first) {
+fn column_in(reading: &Reading) -> usize {
+    match reading {
         Ok(Some(_)) => COMMAND,
         Ok(None) => SKIPPED,
-        Err(LineFault::Wrong { column }) => column,
+        Err(LineFault::Wrong { column }) => *column,
         Err(LineFault::Memory) => NO_MEMORY,
+    }
+}
+
+fn column(rt: &HostRuntime, line: &[u8], first: bool) -> usize {
+    column_in(&parse_line(rt.alloc(), line, first))
+}
+
+pub(crate) fn command_in(reading: &Reading) -> Option<&Command> {
+    match reading {
+        Ok(Some(command)) => Some(command),
+        _ => None,
     }
 }
 
@@ -477,53 +492,36 @@ fn is_values(values: &[Datum]) -> bool {
     }
 }
 
-#[test]
-fn values(rt: HostRuntime) {
-    let line =
-        b"UPSERT INTO D.t VALUES (X'00fF', x'', 'it''s ''\xc3\x84''', -9223372036854775808, True, nuLL)";
-    match parse_line(rt.alloc(), line, false) {
-        Ok(Some(Command::Upsert { table, rows })) => {
-            assert!(rt; table.0.as_str() == "d" && table.1.as_str() == "t");
-            assert!(rt; rows.as_slice().len() == 1 && is_values(rows.as_slice()[0].as_slice()));
-        }
-        _ => assert!(rt; false),
+fn is_upsert(table: &Tbl, rows: &[Row]) -> bool {
+    match rows {
+        [row] => is_table(table, "d", "t") && is_values(row.as_slice()),
+        _ => false,
     }
 }
 
-#[test]
-fn tables(rt: HostRuntime) {
-    let line =
-        b"CREATE TABLE d.t (k INT, V STRING, b BYTES, f BOOL, PRIMARY KEY (k, v DESC, b ASC), REFERENCES d.u)";
-    match parse_line(rt.alloc(), line, false) {
-        Ok(
-            Some(
-                Command::CreateTable {
-                    table,
-                    columns,
-                    key,
-                    references,
-                },
-            ),
-        ) => {
-            assert!(rt; table.1.as_str() == "t");
-            match columns.as_slice() {
-                [
-                    (k, Kind::Int),
-                    (v, Kind::Text),
-                    (_, Kind::Bytes),
-                    (_, Kind::Bool),
-                ] => assert!(rt; k.as_str() == "k" && v.as_str() == "v"),
-                _ => assert!(rt; false),
-            }
-            match key.as_slice() {
-                [(_, false), (v, true), (_, false)] => assert!(rt; v.as_str() == "v"),
-                _ => assert!(rt; false),
-            }
-            assert!(rt;
-                references.as_slice().len() == 1 && references.as_slice()[0].1.as_str() == "u"
-            );
-        }
-        _ => assert!(rt; false),
+fn are_columns(columns: &[(Name, Kind)]) -> bool {
+    match columns {
+        [
+            (k, Kind::Int),
+            (v, Kind::Text),
+            (_, Kind::Bytes),
+            (_, Kind::Bool),
+        ] => k.as_str() == "k" && v.as_str() == "v",
+        _ => false,
+    }
+}
+
+fn is_key(key: &[(Name, bool)]) -> bool {
+    match key {
+        [(_, false), (v, true), (_, false)] => v.as_str() == "v",
+        _ => false,
+    }
+}
+
+fn are_references(references: &[Tbl]) -> bool {
+    match references {
+        [table] => is_table(table, "d", "u"),
+        _ => false,
     }
 }
 
@@ -538,83 +536,77 @@ fn is_number(row: &Row, wanted: i64) -> bool {
     }
 }
 
-#[test]
-fn added_columns(rt: HostRuntime) {
-    let line = b"ALTER TABLE D.t ADD COLUMN V Bytes";
-    let Ok(Some(Command::AddColumn { table, name, kind })) = parse_line(rt.alloc(), line, false)
-    else {
-        return assert!(rt; false);
-    };
-    assert!(rt; is_table(&table, "d", "t") && name.as_str() == "v" && kind == Kind::Bytes);
+fn are_keys(keys: &[Row]) -> bool {
+    match keys {
+        [first, second] => is_number(first, 7) && is_number(second, -1),
+        _ => false,
+    }
+}
+
+/// Lines of different commands, of which each says its own.
+const SAID: &[&[u8]] = &[
+    b"UPSERT INTO D.t VALUES (X'00fF', x'', 'it''s ''\xc3\x84''', -9223372036854775808, True, nuLL)",
+    b"CREATE TABLE d.t (k INT, V STRING, b BYTES, f BOOL, PRIMARY KEY (k, v DESC, b ASC), REFERENCES d.u)",
+    b"ALTER TABLE D.t ADD COLUMN V Bytes",
+    b"ALTER TABLE d.t DROP COLUMN References",
+    b"ALTER TABLE d.t RENAME COLUMN column TO to",
+    b"ALTER TABLE d.t RENAME TO to;",
+    b"DROP TABLE d.t",
+    b"DELETE FROM d.t KEY (7), (-1)",
+    b"DELETE RANGE FROM d.t BETWEEN (3) AND (9)",
+    b"GC d.t BEFORE '5.0000000007'",
+];
+
+/// Whether a command says what its line among those says.
+fn is_said(command: &Command) -> bool {
+    match command {
+        Command::Upsert { table, rows } => is_upsert(table, rows.as_slice()),
+        Command::CreateTable {
+            table,
+            columns,
+            key,
+            references,
+        } => {
+            is_table(table, "d", "t")
+                && are_columns(columns.as_slice())
+                && is_key(key.as_slice())
+                && are_references(references.as_slice())
+        }
+        Command::AddColumn { table, name, kind } => {
+            is_table(table, "d", "t") && name.as_str() == "v" && *kind == Kind::Bytes
+        }
+        Command::DropColumn { table, name } => {
+            is_table(table, "d", "t") && name.as_str() == "references"
+        }
+        Command::RenameColumn { table, name, to } => {
+            is_table(table, "d", "t") && name.as_str() == "column" && to.as_str() == "to"
+        }
+        Command::RenameTable { table, to } => is_table(table, "d", "t") && to.as_str() == "to",
+        Command::DropTable { table } => is_table(table, "d", "t"),
+        Command::Delete { table, keys } => is_table(table, "d", "t") && are_keys(keys.as_slice()),
+        Command::DeleteRange { table, lo, hi } => {
+            is_table(table, "d", "t") && is_number(lo, 3) && is_number(hi, 9)
+        }
+        Command::Gc { table, before } => {
+            is_table(table, "d", "t") && Some(*before) == Hlc::new(5, 7)
+        }
+        _ => false,
+    }
+}
+
+fn says(rt: &HostRuntime, line: &[u8]) -> bool {
+    let reading = parse_line(rt.alloc(), line, false);
+    match command_in(&reading) {
+        Some(command) => is_said(command),
+        None => false,
+    }
 }
 
 #[test]
-fn dropped_columns(rt: HostRuntime) {
-    let line = b"ALTER TABLE d.t DROP COLUMN References";
-    let Ok(Some(Command::DropColumn { table, name })) = parse_line(rt.alloc(), line, false) else {
-        return assert!(rt; false);
-    };
-    assert!(rt; is_table(&table, "d", "t") && name.as_str() == "references");
-}
-
-#[test]
-fn renamed_columns(rt: HostRuntime) {
-    let line = b"ALTER TABLE d.t RENAME COLUMN column TO to";
-    let Ok(Some(Command::RenameColumn { table, name, to })) = parse_line(rt.alloc(), line, false)
-    else {
-        return assert!(rt; false);
-    };
-    assert!(rt; is_table(&table, "d", "t") && name.as_str() == "column" && to.as_str() == "to");
-}
-
-#[test]
-fn renamed_tables(rt: HostRuntime) {
-    let line = b"ALTER TABLE d.t RENAME TO to;";
-    let Ok(Some(Command::RenameTable { table, to })) = parse_line(rt.alloc(), line, false) else {
-        return assert!(rt; false);
-    };
-    assert!(rt; is_table(&table, "d", "t") && to.as_str() == "to");
-}
-
-#[test]
-fn dropped_tables(rt: HostRuntime) {
-    let Ok(Some(Command::DropTable { table })) = parse_line(rt.alloc(), b"DROP TABLE d.t", false)
-    else {
-        return assert!(rt; false);
-    };
-    assert!(rt; is_table(&table, "d", "t"));
-}
-
-#[test]
-fn deleted_keys(rt: HostRuntime) {
-    let line = b"DELETE FROM d.t KEY (7), (-1)";
-    let Ok(Some(Command::Delete { table, keys })) = parse_line(rt.alloc(), line, false) else {
-        return assert!(rt; false);
-    };
-    assert!(rt; is_table(&table, "d", "t"));
-    let [first, second] = keys.as_slice() else {
-        return assert!(rt; false);
-    };
-    assert!(rt; is_number(first, 7) && is_number(second, -1));
-}
-
-#[test]
-fn deleted_ranges(rt: HostRuntime) {
-    let line = b"DELETE RANGE FROM d.t BETWEEN (3) AND (9)";
-    let Ok(Some(Command::DeleteRange { table, lo, hi })) = parse_line(rt.alloc(), line, false)
-    else {
-        return assert!(rt; false);
-    };
-    assert!(rt; is_table(&table, "d", "t") && is_number(&lo, 3) && is_number(&hi, 9));
-}
-
-#[test]
-fn collections(rt: HostRuntime) {
-    let line = b"GC d.t BEFORE '5.0000000007'";
-    let Ok(Some(Command::Gc { table, before })) = parse_line(rt.alloc(), line, false) else {
-        return assert!(rt; false);
-    };
-    assert!(rt; is_table(&table, "d", "t") && Some(before) == Hlc::new(5, 7));
+fn commands_say_what_their_lines_say(rt: HostRuntime) {
+    for line in SAID {
+        assert!(rt; says(&rt, *line));
+    }
 }
 
 fn time_of(command: &Command) -> Option<Hlc> {
@@ -626,9 +618,10 @@ fn time_of(command: &Command) -> Option<Hlc> {
 }
 
 fn time_in(rt: &HostRuntime, line: &[u8]) -> Option<Hlc> {
-    match parse_line(rt.alloc(), line, false) {
-        Ok(Some(command)) => time_of(&command),
-        _ => None,
+    let reading = parse_line(rt.alloc(), line, false);
+    match command_in(&reading) {
+        Some(command) => time_of(command),
+        None => None,
     }
 }
 

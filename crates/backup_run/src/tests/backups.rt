@@ -489,6 +489,34 @@ fn a_backup_is_restored_under_a_new_name(rt: HostRuntime) -> Result<(), Fail> {
     Ok(())
 }
 
+/// Names that aren't the form of an object's, and one of another cluster's.
+const OTHERS: &[&str] = &[
+    "notes.txt",
+    "c.a.gate",
+    "c.a.000000000000000000000003.000000000000000000000000.000000000000000000000003.00000001.gate2",
+    "c.a.000000000000000000000003.000000000000000000000000.000000000000000000000003.1.gate",
+    "c.a.000000000000000080000000.000000000000000000000000.000000000000000080000000.00000001.gate",
+    "c.b.000000000000000000000003.000000000000000000000000.000000000000000000000003.00000001.gate",
+];
+
+fn holds_one(held: &(Text, Blob)) -> bool {
+    held.1.as_slice() == b"\x01".as_slice()
+}
+
+#[test]
+fn other_names_in_the_store_are_left_alone(rt: HostRuntime) -> Result<(), Fail> {
+    let alloc = rt.alloc();
+    let mut objects = Vec::new(alloc);
+    for name in OTHERS {
+        objects.push((Text::copy_of(alloc, *name)?, Blob::copy_of(alloc, b"\x01")?))?;
+    }
+    let mut disk = disk_with(alloc, objects, None)?;
+    assert!(rt; answers(alloc, RESTORE, &mut disk, RESTORED, ONE_CALLS)?);
+    let ones = disk.held().iter().filter(|held| holds_one(*held)).count();
+    assert_eq!(rt; ones, OTHERS.len() + 1);
+    Ok(())
+}
+
 const RESTORES: &[u8] = b"CLUSTER a
 CREATE DATABASE d
 CREATE TABLE d.t (k INT, PRIMARY KEY (k))
