@@ -1,29 +1,15 @@
 -- The bytes of times and of versions' keys, both ways.
-use Rattle.std.proofs.Common.{◌≡◌, ℕ, zero, suc, ◌-◌, ◌^◌, ◌<◌, ◌≤◌, true, false, List, [], ◌∷◌, ◌++◌, length, get_or, take, drop, Option, Some, None, refl, sym, ap, ◌∙◌, append_assoc, arith, inl, inr, nat_lt, nat_le, length-append}
+use Rattle.std.proofs.Common.{◌≡◌, ℕ, suc, ◌-◌, ◌^◌, ◌<◌, ◌≤◌, true, false, List, [], ◌∷◌, ◌++◌, length, take, drop, Some, None, refl, sym, ap, ◌∙◌, append_assoc, arith, inl, inr, nat_lt, nat_le, length-append}
 use Rattle.std.specs.Prelude.{◌==◌, ◌&&◌, slice_index, if◌then◌else◌}
 use Rattle.std.proofs.lemmas.Bool.{cases_Bool}
 use Rattle.std.proofs.lemmas.Bool.Decides.{nat_tests}
 use Rattle.std.proofs.lemmas.List.{take_at, drop_at, take-append-drop, length-take-le, length-drop}
 use Rattle.std.proofs.lemmas.Nat.{be_bytes_4, be_bytes_8, from_be_bytes-to_be_bytes_4, from_be_bytes-to_be_bytes_8}
 use Rattle.mvcc_keys.specs.Times.{Time, time, IsTime}
-use Rattle.mvcc_keys.specs.Codes.{AreBytes, bytes32, bytes64, number32, number64, time_bytes, read_time_bytes, mvcc_key, last_byte, read_wall, read_counter, read_mvcc_key, TimeBytesAreExact, MvccKeysAreExact}
-
--- ---- bytes
-
-bytes-get : (b : List ℕ) (i : ℕ) → AreBytes b → get_or b i 0 < 256
-bytes-get [] i h = omega arith
-bytes-get (x ∷ b) zero h = h.0
-bytes-get (x ∷ b) (suc i) h = bytes-get b i h.1
-
-bytes-take : (n : ℕ) (b : List ℕ) → AreBytes b → AreBytes (take n b)
-bytes-take zero b h = tt
-bytes-take (suc n) [] h = tt
-bytes-take (suc n) (x ∷ b) h = (h.0, bytes-take n b h.1)
-
-bytes-drop : (n : ℕ) (b : List ℕ) → AreBytes b → AreBytes (drop n b)
-bytes-drop zero b h = h
-bytes-drop (suc n) [] h = tt
-bytes-drop (suc n) (x ∷ b) h = bytes-drop n b h.1
+use Rattle.mvcc_keys.specs.Codes.{bytes32, bytes64, number32, number64, time_bytes, read_time_bytes, mvcc_key, last_byte, read_wall, read_counter, read_mvcc_key, TimeBytesAreExact, MvccKeysAreExact}
+use Rattle.list_laws.specs.Bytes.{AreBytes}
+use Rattle.list_laws.proofs.Options.{some-parts}
+use Rattle.list_laws.proofs.Bytes.{bytes-get, bytes-take, bytes-drop}
 
 -- ---- numbers
 
@@ -43,6 +29,11 @@ length-bytes32 : (n : ℕ) → length (bytes32 n) ≡ 4
 unfolding bytes32
 length-bytes32 n = refl
 
+-- a time has 12 bytes
+pub length-time_bytes : (t : Time) → length (time_bytes t) ≡ 12
+unfolding time_bytes bytes64 bytes32
+length-time_bytes t = refl
+
 bytes64-number64 : (b : List ℕ) → length b ≡ 8 → AreBytes b → bytes64 (number64 b) ≡ b
 unfolding bytes64 number64
 bytes64-number64 b l h = be_bytes_8 b _ l (λ i. bytes-get b i h) refl
@@ -56,11 +47,6 @@ unfolding number64
 number64-fits b h = omega (arith, bytes-get b 0 h, bytes-get b 1 h, bytes-get b 2 h, bytes-get b 3 h, bytes-get b 4 h, bytes-get b 5 h, bytes-get b 6 h, bytes-get b 7 h)
 
 -- ---- what an answer holds
-
-some_parts : {X Y : Type 0} (a b : X) (c d : Y) → (let x : Option (X × Y) = Some (a, c) in x ≡ Some (b, d)) → (a ≡ b) × (c ≡ d)
-some_parts {X} {Y} a b c d e =
-    let pairs : (let x : X × Y = (a, c) in x ≡ (b, d)) = cc in
-    (ap (λ (p : X × Y). p.0) pairs, ap (λ (p : X × Y). p.1) pairs)
 
 -- the end of some bytes, by its length
 parted : (n : ℕ) (xs ys : List ℕ) → length ys ≡ n → (take (length (xs ++ ys) - n) (xs ++ ys) ≡ xs) × (drop (length (xs ++ ys) - n) (xs ++ ys) ≡ ys) × (n ≤ length (xs ++ ys))
@@ -95,7 +81,7 @@ time-only b t r h e =
           elim (cases_Bool (nat_le logical 2147483647)) [
             | inr f ↦ let e' = rw (long, f) at e in absurd (cc)
             | inl low ↦
-                let parts = some_parts (time wall logical) t (drop 4 rest) r (rw (long, low) at e) in
+                let parts = some-parts (time wall logical) t (drop 4 rest) r (rw (long, low) at e) in
                 let room : 12 ≤ length b = grind (arith, nat_tests) in
                 let left = length-drop 8 b in
                 let front : bytes64 wall ≡ take 8 b = bytes64-number64 (take 8 b) (length-take-le 8 b (omega arith)) (bytes-take 8 b h) in
@@ -111,7 +97,7 @@ pub time_bytes-exact : TimeBytesAreExact
 time_bytes-exact = record {
   found = time-found;
   only = time-only;
-  apart = λ s t r q hs ht e. some_parts s t r q (sym (time-found s r hs) ∙ (ap read_time_bytes e ∙ time-found t q ht));
+  apart = λ s t r q hs ht e. some-parts s t r q (sym (time-found s r hs) ∙ (ap read_time_bytes e ∙ time-found t q ht));
 }
 
 -- ---- keys of versions
@@ -175,7 +161,7 @@ wall-only b key logical t h e =
           elim (cases_Bool (slice_index date 0 == 0)) [
             | inr f ↦ let e' = rw (long, f) at e in absurd (cc)
             | inl z ↦
-                let parts = some_parts (take n b) key (time (number64 ws) logical) t (rw (long, z) at e) in
+                let parts = some-parts (take n b) key (time (number64 ws) logical) t (rw (long, z) at e) in
                 let room : 9 ≤ length b = grind (arith, nat_tests) in
                 let len : length date ≡ 9 = omega (arith, length-drop n b) in
                 let fits = bytes-drop 1 date (bytes-drop n b h) in
@@ -257,5 +243,5 @@ pub mvcc_keys-exact : MvccKeysAreExact
 mvcc_keys-exact = record {
   found = key-found;
   only = key-only;
-  apart = λ j k s t hs ht e. some_parts j k s t (sym (key-found j s hs) ∙ (ap read_mvcc_key e ∙ key-found k t ht));
+  apart = λ j k s t hs ht e. some-parts j k s t (sym (key-found j s hs) ∙ (ap read_mvcc_key e ∙ key-found k t ht));
 }

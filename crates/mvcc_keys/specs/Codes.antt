@@ -1,14 +1,11 @@
 -- Times in 12 bytes, and the keys of versions: a key, 00, and a time in 9 or 13 bytes.
-use Rattle.std.specs.Prelude.{◌≡◌, ℕ, ◌-◌, ◌<◌, nat_lt, nat_le, ◌==◌, ◌&&◌, Option, Some, None, if◌then◌else◌, List, [], ◌∷◌, ◌++◌, length, take, drop, slice_index}
-use Rattle.std.specs.List.{AllByRecursion}
+use Rattle.std.specs.Prelude.{◌≡◌, ℕ, ◌-◌, nat_lt, nat_le, ◌==◌, ◌&&◌, Option, Some, None, if◌then◌else◌, List, [], ◌∷◌, ◌++◌, length, take, drop, slice_index}
 use Rattle.std.specs.Int.{w32, w64, to_be_bytes, from_be_bytes}
 use Rattle.std.specs.declared.cmp.Ordering.{Ordering}
 use Rattle.std.specs.Ordering.{nat_cmp, ordering_then}
 use Rattle.std.specs.Cmp.Lexicographic.{slice_cmp}
+use Rattle.list_laws.specs.Bytes.{AreBytes}
 use Rattle.mvcc_keys.specs.Times.{Time, time, IsTime}
-
-abbrev pub AreBytes : List ℕ → Type 0
-AreBytes b = AllByRecursion (λ x. x < 256) b
 
 -- numbers of 8 and of 4 bytes, the highest byte first
 unfoldable pub bytes64 : ℕ → List ℕ

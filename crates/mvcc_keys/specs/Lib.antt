@@ -1,3 +1,4 @@
 pub mod Times
+pub mod Entries
 pub mod TimeTexts
 pub mod Codes

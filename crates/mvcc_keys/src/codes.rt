@@ -1,9 +1,10 @@
 //! Times in 12 bytes, and the keys of versions, both ways.
 ghost use Rattle.std.specs.Prelude.{◌≡◌, ◌++◌, ◌≤◌, length, take, OnOk, OnErr};
 ghost use Rattle.std.specs.Option.{option_map};
+ghost use Rattle.mvcc_keys.specs.declared.time.TheConstants.{LOGICAL_MAX};
 ghost use Rattle.mvcc_keys.specs.Codes.{bytes32, bytes64, number32, number64, time_bytes, read_time_bytes, mvcc_key, counter_bytes, read_wall, read_counter, read_mvcc_key, mvcc_cmp, TimeBytesAreExact, MvccKeysAreExact};
 
-use crate::{Hlc, Memory};
+use crate::{Hlc, LOGICAL_MAX, Memory};
 use std::cmp::Ordering;
 
 /// Appends two pieces, or none.
@@ -114,7 +115,7 @@ pub fn encode_mvcc(key: &[u8], t: Hlc, out: &mut Vec<u8>) -> Result<(), Memory>
 /// The key before a wall, and the time of the wall and a counter.
 #[tactic(auto, unfolding(crate::specs::Codes::read_wall))]
 fn split_wall(b: &[u8], logical: u32) -> Option<(&[u8], Hlc)>
-    requires { logical ≤ 2147483647 }
+    requires { logical ≤ LOGICAL_MAX }
     ensures { option_map (λ p. (p.0.now, p.1)) result ≡ read_wall b.now logical }
 {
     if b.len() < 9 {
@@ -140,7 +141,7 @@ fn split_counter(b: &[u8]) -> Option<(&[u8], Hlc)>
     }
     let (front, counter) = b.split_at(b.len() - 4);
     let logical = number32(counter);
-    if logical < 1 || logical > 2147483647 {
+    if logical < 1 || logical > LOGICAL_MAX {
         return None;
     }
     split_wall(front, logical)
@@ -179,55 +180,3 @@ pub fn time_bytes_are_exact()
 pub fn mvcc_keys_are_exact()
     ensures { MvccKeysAreExact }
 {}
-
-#[cfg(test)]
-mod tests {
-    use super::*;
-    use std::test::Fail;
-
-    #[test]
-    fn bytes_are_those_of_the_format(rt: HostRuntime) -> Result<(), Fail> {
-        let at = Hlc::new(1000, 7).expect(&rt, "in range");
-        let mut out = Vec::new(rt.alloc());
-        assert!(rt; put_time(at, &mut out).is_ok());
-        assert_eq!(rt;
-            out.as_slice(),
-            [0, 0, 0, 0, 0, 0, 3, 0xe8, 0, 0, 0, 7].as_slice()
-        );
-        match take_time(out.as_slice()) {
-            Some((time, rest)) => {
-                assert_eq!(rt; time, at);
-                assert!(rt; rest.is_empty());
-            }
-            None => assert!(rt; false),
-        }
-        assert!(rt; take_time(&[0, 0, 0, 0, 0, 0, 3, 0xe8, 0x80, 0, 0, 0]).is_none());
-        let keys: [(u32, &[u8]); 2] = [
-            (0, &[0xec, 0x89, 0x8f, 0x88, 0, 0, 0, 0, 0, 0, 0, 0, 5, 9]),
-            (
-                1,
-                &[
-                    0xec, 0x89, 0x8f, 0x88, 0, 0, 0, 0, 0, 0, 0, 0, 5, 0, 0, 0, 1, 0x0d,
-                ],
-            ),
-        ];
-        for (logical, spelling) in keys.iter() {
-            let at = Hlc::new(5, *logical).expect(&rt, "in range");
-            let mut out = Vec::new(rt.alloc());
-            assert!(rt; encode_mvcc(&[0xec, 0x89, 0x8f, 0x88], at, &mut out).is_ok());
-            assert_eq!(rt; out.as_slice(), *spelling);
-            match split_mvcc(*spelling) {
-                Some((key, time)) => {
-                    assert_eq!(rt; key, [0xec, 0x89, 0x8f, 0x88].as_slice());
-                    assert_eq!(rt; time, at);
-                }
-                None => assert!(rt; false),
-            }
-        }
-        assert!(rt; split_mvcc(&[0, 0, 0, 0, 0, 0, 0, 0, 5, 0, 0, 0, 0, 0x0d]).is_none());
-        let older = Hlc::at_wall(5);
-        assert_eq!(rt; cmp_mvcc(b"a", at, b"a", older), Ordering::Less);
-        assert_eq!(rt; cmp_mvcc(b"a", older, b"b", at), Ordering::Less);
-        Ok(())
-    }
-}

@@ -4,6 +4,7 @@
 mod bytes;
 mod codes;
 mod entries;
+mod extremes;
 mod items;
 mod time;
 mod time_text;
@@ -14,6 +15,7 @@ pub use codes::{
     time_bytes_are_exact,
 };
 pub use entries::{Entry, EntryView};
+pub use extremes::{earlier, earliest, later, latest, time_or_zero};
 pub use items::Items;
-pub use time::Hlc;
+pub use time::{Hlc, LOGICAL_MAX};
 pub use time_text::{TimeFault, parse_time, put_time_text, times_are_exact};

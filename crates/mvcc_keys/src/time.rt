@@ -1,10 +1,14 @@
 //! Times of the hybrid clock.
 ghost use Rattle.std.specs.Prelude.{◌≡◌, ◌≤◌, SomeIff};
 ghost use Rattle.mvcc_keys.specs.Times.{Time, time, zero_time, next, time_lt, time_le};
+ghost use Rattle.mvcc_keys.specs.declared.time.TheConstants.{LOGICAL_MAX};
 
 use std::marker::Model;
 
-/// A wall number in nanoseconds and a counter from 0 to 2147483647, ordered by wall, then by
+/// The greatest counter of a time.
+pub const LOGICAL_MAX: u32 = 2147483647;
+
+/// A wall number in nanoseconds and a counter of at most [`LOGICAL_MAX`], ordered by wall, then by
 /// counter.
 #[derive(Clone, Copy, Debug, PartialEq, Eq, PartialOrd, Ord)]
 pub struct Hlc {
@@ -45,9 +49,9 @@ impl Hlc {
 
     /// The time of a wall and a counter, unless the counter is out of its range.
     pub fn new(wall: u64, logical: u32) -> Option<Hlc>
-        ensures { SomeIff result (logical ≤ 2147483647) (time wall logical) }
+        ensures { SomeIff result (logical ≤ LOGICAL_MAX) (time wall logical) }
     {
-        if logical <= 2147483647 {
+        if logical <= LOGICAL_MAX {
             Some(Hlc { wall, logical })
         } else {
             None
@@ -62,7 +66,7 @@ impl Hlc {
 
     pub fn logical(self) -> u32
         ensures value { result ≡ self.logical }
-        ensures in_range { result ≤ 2147483647 }
+        ensures in_range { result ≤ LOGICAL_MAX }
     {
         self.logical
     }
@@ -71,7 +75,7 @@ impl Hlc {
     pub fn next(self) -> Option<Hlc>
         ensures { result ≡ next self }
     {
-        if self.logical < 2147483647 {
+        if self.logical < LOGICAL_MAX {
             Some(Hlc {
                 wall: self.wall,
                 logical: self.logical + 1,

@@ -3,7 +3,7 @@ ghost use Rattle.std.specs.Prelude.{◌≡◌, ◌++◌, ◌+◌, ◌-◌, ◌*�
 ghost use Rattle.std.specs.Result.{result_ok};
 ghost use Rattle.mvcc_keys.specs.TimeTexts.{time_text, read_time, read_digits, is_digit, are_digits, digits_after, is_least, is_point, time_of, TimesAreExact};
 
-use crate::{Hlc, Memory};
+use crate::{Hlc, LOGICAL_MAX, Memory};
 use std::fmt;
 
 impl fmt::Display for Hlc {
@@ -104,7 +104,7 @@ fn time_of(wall: Option<u64>, logical: Option<u64>) -> Option<Hlc>
 {
     let wall = wall?;
     let logical = logical?;
-    if logical > 2147483647 {
+    if logical > u64::from(LOGICAL_MAX) {
         return None;
     }
     Hlc::new(wall, logical as u32)

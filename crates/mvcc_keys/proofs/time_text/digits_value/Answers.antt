@@ -1,4 +1,4 @@
-use Rattle.std.proofs.Common.{◌≡◌, ◌≤◌, ◌+◌, ◌*◌, ◌-◌, ◌^◌, ℕ, get_or, suc, drop, arith, drop-cons}
+use Rattle.std.proofs.Common.{◌≡◌, ◌+◌, ◌*◌, ◌-◌, get_or, suc, drop, arith, drop-cons}
 use Rattle.mvcc_keys.specs.TimeTexts.{digits_after}
 use Rattle.mvcc_keys.proofs.Numerals.{digits_grow}
 use Rattle.mvcc_keys.proofs.time_text.digits_value.Goals as goal

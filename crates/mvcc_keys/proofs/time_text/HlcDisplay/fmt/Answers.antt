@@ -1,4 +1,3 @@
-use Rattle.std.proofs.Common.{rules}
 use Rattle.mvcc_keys.specs.TimeTexts.{time_text}
 use Rattle.mvcc_keys.proofs.Numerals.{ten_digits-styled}
 use Rattle.mvcc_keys.proofs.time_text.HlcDisplay.fmt.Goals as goal

@@ -1,0 +1,9 @@
+pub mod Bools
+pub mod Options
+pub mod Results
+pub mod Orderings
+pub mod Members
+pub mod Filters
+pub mod Places
+pub mod Orders
+pub mod Bytes

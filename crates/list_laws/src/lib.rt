@@ -1,0 +1,2 @@
+//! Laws on truth values, options, results, orders and lists, which every other crate cites: definitions and lemmas alone.
+#![tactic(auto)]
