@@ -1,11 +1,12 @@
 -- A chain of layers: what is made of an image and the layers after it.
 use Rattle.std.proofs.Common.{◌≡◌, Bool, true, false, refl, List, ◌++◌, inl, inr, Ordering}
 use Rattle.mvcc_keys.specs.Times.{Time, time_lt, time_le}
-use Rattle.fact_model.specs.Facts.{Fact, date, Has, AllIn, after, upto}
+use Rattle.fact_model.specs.Facts.{Fact, date, after, upto}
+use Rattle.list_laws.specs.Members.{Has, AllIn}
 use Rattle.fact_model.specs.Scans.{image}
-use Rattle.fact_model.proofs.TimeLaws as times
-use Rattle.fact_model.proofs.Members as members
-use Rattle.fact_model.proofs.Newest.{IsNewestFact}
+use Rattle.mvcc_keys.proofs.TimeOrder as times
+use Rattle.list_laws.proofs.Members as members
+use Rattle.fact_model.specs.Newest.{IsNewestFact}
 use Rattle.fact_model.proofs.Stores.{IsMadeOf}
 
 module _ {K V : Type 0} (cmp : K → K → Ordering) where
@@ -26,12 +27,12 @@ module _ {K V : Type 0} (cmp : K → K → Ordering) where
   made-layer b s e fs gs es bs se m l = record {
     images = λ f h. members.has-append_left f gs es (m.images f h);
     newer = λ k f n later. by k f n later (time_le (date f) s) refl;
-    only = λ f h. elim (members.has-append_cases f gs es h) [ inl i ↦ m.only f i | inr j ↦ let w = l.within f j in inr (w.0, times.lt-weaker b s (date f) bs w.1.0) ];
+    only = λ f h. elim (members.has-append_cases f gs es h) [ inl i ↦ m.only f i | inr j ↦ let w = l.within f j in inr (w.0, times.le-lt-lt b s (date f) bs w.1.0) ];
   }
     where
       by : (k : K) (f : Fact K V) → IsNewestFact cmp k e fs f → time_lt b (date f) ≡ true → (c : Bool) → time_le (date f) s ≡ c → Has f (gs ++ es)
       by k f n later true p = members.has-append_left f gs es (m.newer k f (record { among = n.among; touching = n.touching; dated = p; last = λ g h q r. n.last g h q (times.le-trans (date g) s e r se) }) later)
-      by k f n later false p = members.has-append_right f gs es (l.newest_there k f n (times.lt-not_le s (date f) p))
+      by k f n later false p = members.has-append_right f gs es (l.newest_there k f n (times.not_le-lt s (date f) p))
 
   -- the last layer is read up to a time within it, if it has history
   pub made-cut : (b s t : Time) (fs gs : List (Fact K V)) → time_le b s ≡ true → time_le s t ≡ true → IsMadeOf cmp b s fs gs → IsMadeOf cmp b t fs (gs ++ upto t (after s fs))

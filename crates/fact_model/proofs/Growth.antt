@@ -2,9 +2,10 @@
 use Rattle.std.proofs.Common.{◌≡◌, Bool, true, false, cond, sym, refl, ap, ap₂, ◌∙◌, subst, ◌&&◌, List, [], ◌∷◌, ◌++◌, Option, Some, None, inl, inr, map, filter, Ordering, true≢false, append_assoc}
 use Rattle.std.proofs.lemmas.List.Elements.{filter-append}
 use Rattle.mvcc_keys.specs.Times.{Time, time_lt, time_le}
-use Rattle.fact_model.specs.Facts.{Fact, date, touches, later, newest, version_of, value, Has, IsApart, IsKeyOrder, after}
+use Rattle.fact_model.specs.Facts.{Fact, date, touches, later, newest, version_of, value, IsApart, IsKeyOrder, after}
+use Rattle.list_laws.specs.Members.{Has}
 use Rattle.fact_model.specs.Scans.{image, kept}
-use Rattle.fact_model.proofs.TimeLaws as times
+use Rattle.mvcc_keys.proofs.TimeOrder as times
 use Rattle.fact_model.proofs.Scanned as scanned
 use Rattle.fact_model.proofs.Stores as stores
 
@@ -27,12 +28,12 @@ module _ {K V : Type 0} (cmp : K → K → Ordering) where
     -- a store that a later fact is put into
     pub kept-push : (g : Time) (fs : List (Fact K V)) (f : Fact K V) → time_lt g (date f) ≡ true → kept cmp g (fs ++ f ∷ []) ≡ kept cmp g fs ++ f ∷ []
     unfolding kept
-    kept-push g fs f e = rw (image-push_later g fs f (times.lt-le_false g (date f) e), filter-append (λ (x : Fact K V). time_lt g (date x)) fs (f ∷ []), e) (sym (append_assoc (image cmp g fs) (after g fs) (f ∷ [])))
+    kept-push g fs f e = rw (image-push_later g fs f (times.lt-not_le g (date f) e), filter-append (λ (x : Fact K V). time_lt g (date x)) fs (f ∷ []), e) (sym (append_assoc (image cmp g fs) (after g fs) (f ∷ [])))
 
     -- nothing of an image is dated after its time
     no-later : (g s : Time) (xs : List (Fact K V)) → ((f : Fact K V) → Has f xs → time_le (date f) g ≡ true) → time_le g s ≡ true → after s xs ≡ []
     no-later g s [] all le = refl
-    no-later g s (x ∷ xs) all le = rw (times.le-lt_false s (date x) (times.le-trans (date x) g s (all x (inl refl)) le)) (no-later g s xs (λ f i. all f (inr i)) le)
+    no-later g s (x ∷ xs) all le = rw (times.le-not_lt s (date x) (times.le-trans (date x) g s (all x (inl refl)) le)) (no-later g s xs (λ f i. all f (inr i)) le)
 
     image-dated : (g : Time) (fs : List (Fact K V)) (f : Fact K V) → Has f (image cmp g fs) → time_le (date f) g ≡ true
     image-dated g fs f h = let m = scanned.image-has cmp o g fs f h in subst (λ (x : Fact K V). time_le (date x) g ≡ true) (sym m.3) (scanned.value-put cmp o g fs m.0 m.1 m.2).dated
@@ -44,7 +45,7 @@ module _ {K V : Type 0} (cmp : K → K → Ordering) where
         by : (a : Bool) → time_lt g (date x) ≡ a → (b : Bool) → time_lt s (date x) ≡ b → after s (after g fs) ≡ after s fs → after s (cond a (x ∷ after g fs) (after g fs)) ≡ cond b (x ∷ after s fs) (after s fs)
         by true p true q e = rw q (ap (λ (xs : List (Fact K V)). x ∷ xs) e)
         by true p false q e = rw q e
-        by false p true q e = absurd (true≢false (sym (times.lt-weaker g s (date x) le q) ∙ p))
+        by false p true q e = absurd (true≢false (sym (times.le-lt-lt g s (date x) le q) ∙ p))
         by false p false q e = e
 
     -- a second collection

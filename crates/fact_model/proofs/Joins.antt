@@ -1,10 +1,11 @@
 -- The newest fact of two lists.
 use Rattle.std.proofs.Common.{◌≡◌, Bool, true, false, cond, sym, refl, ap, ◌∙◌, ◌&&◌, List, [], ◌∷◌, ◌++◌, Option, Some, None, Ordering, true≢false}
 use Rattle.mvcc_keys.specs.Times.{Time, time_lt, time_le}
-use Rattle.fact_model.specs.Facts.{Fact, date, touches, later, newest, Has}
+use Rattle.fact_model.specs.Facts.{Fact, date, touches, later, newest}
+use Rattle.list_laws.specs.Members.{Has}
 use Rattle.fact_model.specs.Joined.{joined}
-use Rattle.fact_model.proofs.TimeLaws as times
-use Rattle.fact_model.proofs.Newest.{IsUntouched}
+use Rattle.mvcc_keys.proofs.TimeOrder as times
+use Rattle.fact_model.specs.Newest.{IsUntouched}
 use Rattle.fact_model.proofs.Newest as newests
 
 module _ {K V : Type 0} where

@@ -1,21 +1,10 @@
 -- What the newest fact is.
 use Rattle.std.proofs.Common.{◌≡◌, Bool, true, false, cond, sym, refl, ap, ◌∙◌, subst, ◌&&◌, List, [], ◌∷◌, Option, Some, None, inl, inr, Ordering, true≢false}
 use Rattle.mvcc_keys.specs.Times.{Time, time_lt, time_le}
-use Rattle.fact_model.specs.Facts.{Fact, date, touches, later, newest, Has, IsApart}
-use Rattle.fact_model.proofs.TimeLaws as times
-
-pub record IsNewestFact {K V : Type 0} (cmp : K → K → Ordering) (k : K) (t : Time) (fs : List (Fact K V)) (f : Fact K V) : Type 0 where
-  pub among : Has f fs
-  pub touching : touches cmp k f ≡ true
-  pub dated : time_le (date f) t ≡ true
-  pub last : (g : Fact K V) → Has g fs → touches cmp k g ≡ true → time_le (date g) t ≡ true → time_le (date g) (date f) ≡ true
-
-abbrev pub IsUntouched : {K V : Type 0} → (K → K → Ordering) → K → Time → List (Fact K V) → Type 0
-IsUntouched {K} {V} cmp k t fs = (g : Fact K V) → Has g fs → touches cmp k g ≡ true → time_le (date g) t ≡ true → ⊥
-
-abbrev pub IsNewest : {K V : Type 0} → (K → K → Ordering) → K → Time → List (Fact K V) → Option (Fact K V) → Type 0
-IsNewest cmp k t fs None = IsUntouched cmp k t fs
-IsNewest cmp k t fs (Some f) = IsNewestFact cmp k t fs f
+use Rattle.fact_model.specs.Facts.{Fact, date, touches, later, newest, IsApart}
+use Rattle.list_laws.specs.Members.{Has}
+use Rattle.fact_model.specs.Newest.{IsNewest, IsNewestFact, IsUntouched}
+use Rattle.mvcc_keys.proofs.TimeOrder as times
 
 module _ {K V : Type 0} (cmp : K → K → Ordering) (k : K) (t : Time) where
   -- a fact that doesn't count in front changes nothing
@@ -35,8 +24,8 @@ module _ {K V : Type 0} (cmp : K → K → Ordering) (k : K) (t : Time) where
   newest-takes f fs (Some r) p q h = go (time_lt (date f) (date r)) refl
     where
       go : (b : Bool) → time_lt (date f) (date r) ≡ b → IsNewest cmp k t (f ∷ fs) (cond b (Some r) (Some f))
-      go true e = record { among = inr h.among; touching = h.touching; dated = h.dated; last = λ g. elim [ inl i ↦ λ _ _. subst (λ (x : Fact K V). time_le (date x) (date r) ≡ true) (sym i) (times.le-from_lt (date f) (date r) e) | inr i ↦ h.last g i ] }
-      go false e = record { among = inl refl; touching = p; dated = q; last = λ g. elim [ inl i ↦ λ _ _. subst (λ (x : Fact K V). time_le (date x) (date f) ≡ true) (sym i) (times.le-refl (date f)) | inr i ↦ λ a b. times.le-trans (date g) (date r) (date f) (h.last g i a b) (times.le-not_lt (date f) (date r) e) ] }
+      go true e = record { among = inr h.among; touching = h.touching; dated = h.dated; last = λ g. elim [ inl i ↦ λ _ _. subst (λ (x : Fact K V). time_le (date x) (date r) ≡ true) (sym i) (times.lt-le (date f) (date r) e) | inr i ↦ h.last g i ] }
+      go false e = record { among = inl refl; touching = p; dated = q; last = λ g. elim [ inl i ↦ λ _ _. subst (λ (x : Fact K V). time_le (date x) (date f) ≡ true) (sym i) (times.le-refl (date f)) | inr i ↦ λ a b. times.le-trans (date g) (date r) (date f) (h.last g i a b) (times.not_lt-le (date f) (date r) e) ] }
 
   pub newest-is : (fs : List (Fact K V)) → IsNewest cmp k t fs (newest cmp k t fs)
   unfolding newest
@@ -62,3 +51,8 @@ module _ {K V : Type 0} (cmp : K → K → Ordering) (k : K) (t : Time) where
       go : (r : Option (Fact K V)) → IsNewest cmp k t fs r → r ≡ None
       go None none = refl
       go (Some g) n = absurd (h g n.among n.touching n.dated)
+
+  -- of facts that lie apart, what is said of the newest says which it is
+  pub newest-only : (fs : List (Fact K V)) → IsApart cmp fs → (r : Option (Fact K V)) → IsNewest cmp k t fs r → r ≡ newest cmp k t fs
+  newest-only fs apart None h = sym (newest-none fs h)
+  newest-only fs apart (Some f) h = sym (newest-from fs f apart h)

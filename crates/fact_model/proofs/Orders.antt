@@ -5,9 +5,10 @@ use Rattle.std.specs.List.{AllByRecursion}
 use Rattle.std.specs.List.Sorted.{IsStrictlySortedBy}
 use Rattle.std.proofs.lemmas.Cmp.{tied_itself}
 use Rattle.std.specs.Ordering.{ordering_reverse}
-use Rattle.fact_model.specs.Facts.{Has, AllIn, IsKeyOrder}
+use Rattle.fact_model.specs.Facts.{IsKeyOrder}
+use Rattle.list_laws.specs.Members.{Has, AllIn}
 use Rattle.fact_model.specs.Ordered.{by_order, insert_by, ordered}
-use Rattle.fact_model.proofs.Members as members
+use Rattle.list_laws.proofs.Members as members
 
 -- each element meets P
 abbrev pub Each : {X : Type 0} → (X → Type 0) → List X → Type 0
@@ -121,3 +122,34 @@ module _ {X Y : Type 0} (cmp : X → X → Ordering) (cmp' : Y → Y → Orderin
   unfolding ordered
   ordered-map [] all = refl
   ordered-map (x ∷ xs) all = ap (insert_by cmp' (f x)) (ordered-map xs (λ z i. all z (inr i))) ∙ insert-map x (ordered cmp xs) (all x (inl refl)) (λ z i. all z (inr (ordered-has cmp z xs i)))
+
+-- ---- what is put in order is there, where no two elements tie
+
+pub inserted-there : {X : Type 0} (cmp : X → X → Ordering) (x : X) (ys : List X) → ((y : X) → Has y ys → cmp x y ≡ Equal → x ≡ y) → Has x (insert_by cmp x ys)
+unfolding insert_by
+inserted-there cmp x [] same = inl refl
+inserted-there cmp x (y ∷ ys) same = by (cmp x y) refl (inserted-there cmp x ys (λ z h. same z (inr h)))
+  where
+    by : (o : Ordering) → cmp x y ≡ o → Has x (insert_by cmp x ys) → Has x (by_order o (x ∷ y ∷ ys) (y ∷ ys) (y ∷ insert_by cmp x ys))
+    by Less e more = inl refl
+    by Equal e more = inl (same y (inl refl) e)
+    by Greater e more = inr more
+
+pub ordered-there : {X : Type 0} (cmp : X → X → Ordering) (z : X) (xs : List X) → ((x y : X) → Has x xs → Has y xs → cmp x y ≡ Equal → x ≡ y) → Has z xs → Has z (ordered cmp xs)
+unfolding ordered
+ordered-there cmp z [] same h = h
+ordered-there cmp z (x ∷ xs) same (inl e) = subst (λ w. Has w (insert_by cmp x (ordered cmp xs))) (sym e) (inserted-there cmp x (ordered cmp xs) (λ y h. same x y (inl refl) (inr (ordered-has cmp y xs h))))
+ordered-there cmp z (x ∷ xs) same (inr i) = has-insert cmp x z (ordered cmp xs) (ordered-there cmp z xs (λ y w h j. same y w (inr h) (inr j)) i)
+
+-- a list that ascends is the other put in order, where they have the same elements
+pub in-order : {X : Type 0} (cmp : X → X → Ordering) (xs ys : List X) → IsTotalOrder cmp → IsStrictlySortedBy cmp xs → ((x y : X) → Has x ys → Has y ys → cmp x y ≡ Equal → x ≡ y) → AllIn xs ys → AllIn ys xs → xs ≡ ordered cmp ys
+in-order cmp xs ys total up same f g = ascending-same cmp total xs (ordered cmp ys) up (ascending-ordered cmp total ys) (λ x h. ordered-there cmp x ys same (f x h)) (λ x h. g x (ordered-has cmp x ys h))
+
+-- elements of a list that ascends that tie are one
+pub sorted-tied : {X : Type 0} (cmp : X → X → Ordering) (xs : List X) → IsTotalOrder cmp → IsStrictlySortedBy cmp xs → (x y : X) → Has x xs → Has y xs → cmp x y ≡ Equal → x ≡ y
+unfolding IsStrictlySortedBy
+sorted-tied cmp [] total up x y h i e = absurd h
+sorted-tied cmp (z ∷ zs) total up x y (inl a) (inl b) e = a ∙ sym b
+sorted-tied cmp (z ∷ zs) total up x y (inl a) (inr j) e = let l = members.has-AllByRecursion (λ w. cmp z w ≡ Less) y zs up.0 j in let c : Less ≡ Equal = sym l ∙ (ap (λ w. cmp w y) (sym a) ∙ e) in cc
+sorted-tied cmp (z ∷ zs) total up x y (inr i) (inl b) e = let l = members.has-AllByRecursion (λ w. cmp z w ≡ Less) x zs up.0 i in let c : Less ≡ Equal = sym l ∙ (total.antisymm z x ∙ ap ordering_reverse (ap (cmp x) (sym b) ∙ e)) in cc
+sorted-tied cmp (z ∷ zs) total up x y (inr i) (inr j) e = sorted-tied cmp zs total up.1 x y i j e

@@ -4,13 +4,14 @@ use Rattle.std.specs.Ordering.{on}
 use Rattle.std.specs.List.Sorted.{IsStrictlySortedBy}
 use Rattle.std.proofs.lemmas.Cmp.{on_total}
 use Rattle.mvcc_keys.specs.Times.{Time}
-use Rattle.fact_model.specs.Facts.{Fact, Put, Del, DelRange, newest, Version, version_of, value, Has, AllIn, IsKeyOrder}
+use Rattle.fact_model.specs.Facts.{Fact, Put, Del, DelRange, newest, Version, version_of, value, IsKeyOrder}
+use Rattle.list_laws.specs.Members.{Has, AllIn}
 use Rattle.fact_model.specs.Ordered.{ordered}
 use Rattle.fact_model.specs.Scans.{Item, keys_put, item, version, with_item, items, scan, IsScan, put_of, image}
-use Rattle.fact_model.proofs.Members as members
+use Rattle.list_laws.proofs.Members as members
 use Rattle.fact_model.proofs.Orders as orders
 use Rattle.fact_model.proofs.Newest as newests
-use Rattle.fact_model.proofs.Newest.{IsNewestFact, IsNewest}
+use Rattle.fact_model.specs.Newest.{IsNewestFact, IsNewest}
 
 module _ {K V : Type 0} where
   pub keys-has : (k : K) (v : V) (at : Time) (fs : List (Fact K V)) → Has (Put k v at) fs → Has k (keys_put fs)

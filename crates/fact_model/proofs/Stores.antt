@@ -2,13 +2,14 @@
 use Rattle.std.proofs.Common.{◌≡◌, Bool, true, false, sym, refl, ap, ◌∙◌, subst, List, ◌++◌, Option, Some, None, ◌⊎◌, inl, inr, Ordering, IsPermutation}
 use Rattle.std.proofs.lemmas.List.Sorted.{IsPermutation-sym}
 use Rattle.mvcc_keys.specs.Times.{Time, time_lt, time_le}
-use Rattle.fact_model.specs.Facts.{Fact, Put, Del, DelRange, date, touches, newest, Version, version_of, value, Has, AllIn, IsApart, IsKeyOrder, after, upto}
+use Rattle.fact_model.specs.Facts.{Fact, Put, Del, DelRange, date, touches, newest, Version, version_of, value, IsApart, IsKeyOrder, after, upto}
+use Rattle.list_laws.specs.Members.{Has, AllIn}
 use Rattle.fact_model.specs.Scans.{scan, image, kept}
-use Rattle.fact_model.proofs.TimeLaws as times
-use Rattle.fact_model.proofs.Members as members
+use Rattle.mvcc_keys.proofs.TimeOrder as times
+use Rattle.list_laws.proofs.Members as members
 use Rattle.fact_model.proofs.Orders as orders
 use Rattle.fact_model.proofs.Newest as newests
-use Rattle.fact_model.proofs.Newest.{IsNewestFact, IsNewest, IsUntouched}
+use Rattle.fact_model.specs.Newest.{IsNewestFact, IsNewest, IsUntouched}
 use Rattle.fact_model.proofs.Scanned as scanned
 
 module _ {K V : Type 0} (cmp : K → K → Ordering) where
@@ -80,7 +81,7 @@ module _ {K V : Type 0} (cmp : K → K → Ordering) where
           where
             by : (b : Bool) → time_le (date f) s ≡ b → Has f gs ⊎ (version_of (Some f) ≡ None) × (value cmp k t gs ≡ None)
             by true e = at_image f n e
-            by false e = inl (m.newer k f n (times.lt-not_le s (date f) e))
+            by false e = inl (m.newer k f n (times.not_le-lt s (date f) e))
 
     pub made-scan : (s t : Time) (fs gs : List (Fact K V)) → IsApart cmp fs → time_le s t ≡ true → IsMadeOf s t fs gs → scan cmp t gs ≡ scan cmp t fs
     made-scan s t fs gs a le m = scanned.scan-by_value cmp o t t gs fs (λ k. made-value k s t fs gs a le m)

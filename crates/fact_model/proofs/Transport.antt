@@ -2,7 +2,8 @@
 use Rattle.std.proofs.Common.{◌≡◌, Bool, true, false, cond, sym, refl, ap, ap₂, ◌∙◌, subst, ◌&&◌, List, [], ◌∷◌, ◌++◌, Option, Some, None, inl, inr, map, Ordering, is_eq, is_le, is_lt, option_map}
 use Rattle.std.proofs.lemmas.List.{map-append}
 use Rattle.mvcc_keys.specs.Times.{Time, time_lt, time_le}
-use Rattle.fact_model.specs.Facts.{Fact, Put, Del, DelRange, date, touches, later, newest, Version, version_of, value, Has, after}
+use Rattle.fact_model.specs.Facts.{Fact, Put, Del, DelRange, date, touches, later, newest, Version, version_of, value, after}
+use Rattle.list_laws.specs.Members.{Has}
 use Rattle.fact_model.specs.Ordered.{ordered}
 use Rattle.fact_model.specs.Scans.{Item, keys_put, with_item, items, scan, put_of, image, kept}
 use Rattle.fact_model.specs.Mapped.{map_fact, map_version, map_item, KeysMeet}

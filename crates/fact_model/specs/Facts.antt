@@ -5,6 +5,7 @@ use Rattle.std.specs.Ordering.{is_eq, is_lt, is_le}
 use Rattle.std.specs.Cmp.{IsTotalOrder}
 use Rattle.std.specs.declared.cmp.Ordering.TheVariants.{Equal}
 use Rattle.mvcc_keys.specs.Times.{Time, time_lt, time_le}
+use Rattle.list_laws.specs.Members.{Has}
 
 pub data Fact (K V : Type 0) : Type 0 where
   Put : K → V → Time → Fact K V
@@ -51,15 +52,6 @@ version_of (Some (DelRange lo hi at)) = None
 -- the value of k as of t
 unfoldable pub value : {K V : Type 0} → (K → K → Ordering) → K → Time → List (Fact K V) → Option (Version V)
 value cmp k t fs = version_of (newest cmp k t fs)
-
--- x is in the list
-abbrev pub Has : {X : Type 0} → X → List X → Type 0
-Has x [] = ⊥
-Has x (y ∷ ys) = (x ≡ y) ⊎ Has x ys
-
--- each element of xs is in ys
-abbrev pub AllIn : {X : Type 0} → List X → List X → Type 0
-AllIn {X} xs ys = (x : X) → Has x xs → Has x ys
 
 -- facts of one date that touch one key are the same fact
 pub record IsApart {K V : Type 0} (cmp : K → K → Ordering) (fs : List (Fact K V)) : Type 0 where

@@ -1,10 +1,25 @@
 -- What holds of dated facts, said of any keys and values.
-use Rattle.std.specs.Prelude.{◌≡◌, ◌⊎◌, true, List, map, IsPermutation, option_map}
+use Rattle.std.specs.Prelude.{◌≡◌, ◌⊎◌, Bool, true, false, List, Option, map, IsPermutation, option_map}
 use Rattle.std.specs.declared.cmp.Ordering.{Ordering}
 use Rattle.mvcc_keys.specs.Times.{Time, time_le}
-use Rattle.fact_model.specs.Facts.{Fact, Put, Del, DelRange, IsApart, IsKeyOrder, Has, value}
+use Rattle.fact_model.specs.Facts.{Fact, Put, Del, DelRange, IsApart, IsKeyOrder, newest, value}
+use Rattle.list_laws.specs.Members.{Has}
+use Rattle.fact_model.specs.Listed.{date_cmp, point_cmp, points, ranges}
+use Rattle.fact_model.specs.Listings.{IsListed, IsListing, RangesDiffer}
+use Rattle.fact_model.specs.Newest.{IsNewest}
 use Rattle.fact_model.specs.Scans.{Item, scan, IsScan, kept}
 use Rattle.fact_model.specs.Mapped.{map_fact, map_version, map_item}
+
+-- The newest fact of a key up to a time is one of the facts that touch the key and are dated up to then, and none of those is later;
+-- there is none only where none touches it. Of facts that lie apart no other answer is so.
+abbrev pub NewestIsExact : Type 0 → Type 0 → Type 0
+NewestIsExact K V = (cmp : K → K → Ordering) (fs : List (Fact K V)) (k : K) (t : Time) → IsNewest cmp k t fs (newest cmp k t fs) × (IsApart cmp fs → (r : Option (Fact K V)) → IsNewest cmp k t fs r → r ≡ newest cmp k t fs)
+
+-- A listing ascends strictly and has exactly the facts that are listed: puts and deletions by key and newest first, where the facts lie
+-- apart, and range deletions by date, where no two have one date.
+pub record ListingsAreExact (K V : Type 0) : Type 0 where
+  pub puts : (cmp : K → K → Ordering) (dated : Time → Bool) (fs : List (Fact K V)) → IsKeyOrder cmp → IsApart cmp fs → IsListing (point_cmp cmp) (IsListed true dated fs) (points cmp dated fs)
+  pub deletions : (dated : Time → Bool) (fs : List (Fact K V)) → RangesDiffer fs → IsListing date_cmp (IsListed false dated fs) (ranges dated fs)
 
 -- a scan ascends and has exactly the visible items, and no other list does
 abbrev pub ScansAreExact : Type 0 → Type 0 → Type 0

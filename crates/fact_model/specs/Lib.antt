@@ -2,6 +2,8 @@ pub mod Ordered
 pub mod Facts
 pub mod Scans
 pub mod Listed
+pub mod Listings
+pub mod Newest
 pub mod Joined
 pub mod Mapped
 pub mod Laws

@@ -5,7 +5,8 @@ use Rattle.std.specs.Ordering.{on}
 use Rattle.std.specs.List.Sorted.{IsStrictlySortedBy}
 use Rattle.mvcc_keys.specs.Times.{Time}
 use Rattle.fact_model.specs.Ordered.{ordered}
-use Rattle.fact_model.specs.Facts.{Fact, Put, Del, DelRange, Has, value, Version, after}
+use Rattle.fact_model.specs.Facts.{Fact, Put, Del, DelRange, value, Version, after}
+use Rattle.list_laws.specs.Members.{Has}
 
 pub record Item (K V : Type 0) : Type 0 where
   pub key : K

@@ -1,5 +1,17 @@
 //! What holds of dated facts.
-ghost use Rattle.fact_model.specs.Laws.{ScansAreExact, KeptSuffices, KeptOnceMore, OrderIsFree, MapsCarry};
+ghost use Rattle.fact_model.specs.Laws.{NewestIsExact, ListingsAreExact, ScansAreExact, KeptSuffices, KeptOnceMore, OrderIsFree, MapsCarry};
+
+/// A law: the newest fact of a key up to a time is a fact that touches the key, dated up to then,
+/// and none such is later; of facts that lie apart it is the only one.
+pub fn newest_is_exact<K, V>()
+    ensures { NewestIsExact K V }
+{}
+
+/// A law: the listings of puts and deletions and of range deletions ascend, and have exactly the
+/// facts that are listed.
+pub fn listings_are_exact<K, V>()
+    ensures { ListingsAreExact K V }
+{}
 
 /// A law: a scan ascends by key and has exactly the puts that are the newest facts of their keys;
 /// no other list does.

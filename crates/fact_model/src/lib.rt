@@ -3,4 +3,7 @@
 
 mod laws;
 
-pub use laws::{kept_once_more, kept_suffices, maps_carry, order_is_free, scans_are_exact};
+pub use laws::{
+    kept_once_more, kept_suffices, listings_are_exact, maps_carry, newest_is_exact, order_is_free,
+    scans_are_exact,
+};

@@ -1,7 +1,8 @@
 -- What an answer of a reader says, and codes from their readers.
 use Rattle.std.proofs.Common.{◌≡◌, ℕ, List, ◌++◌, ap, ◌∙◌, sym, Ok, Err, Result}
 use Rattle.std.specs.declared.cmp.Ordering.{Ordering}
-use Rattle.key_encoding.specs.Coding.{AreBytes, IsOrderedCode, IsCode}
+use Rattle.key_encoding.specs.Coding.{IsOrderedCode, IsCode}
+use Rattle.list_laws.specs.Bytes.{AreBytes}
 use Rattle.key_encoding.specs.Reading.{on_value}
 use Rattle.key_encoding.specs.declared.fault.KeyFault.{KeyFault}
 

@@ -7,7 +7,8 @@ use Rattle.std.specs.Cmp.{ranked}
 use Rattle.std.specs.Cmp.Lexicographic.{slice_cmp}
 use Rattle.std.proofs.lemmas.Bool.{cases_Bool}
 use Rattle.std.proofs.lemmas.Bool.Decides.{nat_tests}
-use Rattle.key_encoding.specs.Coding.{AreBytes, IsOrderedCode, turned_round}
+use Rattle.key_encoding.specs.Coding.{IsOrderedCode, turned_round}
+use Rattle.list_laws.specs.Bytes.{AreBytes}
 use Rattle.key_encoding.specs.Spelling.{escape, escaped, turned, bytes_code, bytes_down_code}
 use Rattle.key_encoding.proofs.Ranks.{less, greater, equal, then_assoc}
 

@@ -6,7 +6,8 @@ use Rattle.std.proofs.Math.Arith.{digits_div, digits_mod}
 use Rattle.std.proofs.lemmas.List.{take-append-drop, length-take-le}
 use Rattle.std.proofs.lemmas.Bool.{cases_Bool}
 use Rattle.std.proofs.lemmas.Bool.Decides.{nat_tests}
-use Rattle.key_encoding.specs.Coding.{AreBytes, IsSignedWord, IsWord}
+use Rattle.key_encoding.specs.Coding.{IsSignedWord, IsWord}
+use Rattle.list_laws.specs.Bytes.{AreBytes}
 use Rattle.key_encoding.specs.Spelling.{byte_count, negative, uvarint, varint, varint_down}
 use Rattle.key_encoding.specs.Reading.{below_sign, number_of, read_digits, read_negative, read_signed, read_uvarint, read_varint, read_varint_down, signed}
 use Rattle.key_encoding.specs.declared.fault.KeyFault.{KeyFault}
@@ -14,6 +15,7 @@ use Rattle.key_encoding.proofs.Answered.{ok_parts, on_value-ok}
 use Rattle.key_encoding.proofs.Digits.{digit, left_over, length_high, low_part, power_above, powers}
 use Rattle.key_encoding.proofs.Counts.{Counts, counts}
 use Rattle.key_encoding.proofs.SignedOrder.{first_high}
+use Rattle.list_laws.proofs.Bytes.{bytes-take}
 
 -- digits spell the number that they are of
 pub number-high : (k v : ℕ) → number_of (bytes_high_first k v) ≡ v % 256 ^ k
@@ -77,12 +79,6 @@ high-number h (x ∷ ds) bytes =
     byte-div (length ds) _ ∙ (ap (λ q. q % 256) (digits_div (h * 256 + x) (number-lt ds bytes.1)) ∙ digits_mod h bytes.0) in
     rw (shape, head) (ap (λ t. x ∷ t) (high-number (h * 256 + x) ds bytes.1))
 
--- bytes stay bytes where fewer are taken
-take-bytes : (n : ℕ) (b : List ℕ) → AreBytes b → AreBytes (take n b)
-take-bytes zero b h = tt
-take-bytes (suc n) [] h = tt
-take-bytes (suc n) (x ∷ b) h = (h.0, take-bytes n b h.1)
-
 spelled_long : (n len : ℕ) (rest : List ℕ) (v : ℕ) (r : List ℕ) → AreBytes rest → read_digits n len rest ≡ Ok (v, r) → (245 + n) ∷ rest ≡ uvarint v ++ r
 unfolding uvarint
 spelled_long n len rest v r bytes e =
@@ -103,7 +99,7 @@ spelled_long n len rest v r bytes e =
                       let count : byte_count got ≡ n = grind (arith, nat_tests) in
                       let len_is : length (take n rest) ≡ n = length-take-le n rest (grind (arith, nat_tests)) in
                       let digits : bytes_high_first n got ≡ take n rest =
-                      let h = high-number 0 (take n rest) (take-bytes n rest bytes) in
+                      let h = high-number 0 (take n rest) (bytes-take n rest bytes) in
                       let z : 0 * 256 ^ n + number_of (take n rest) ≡ number_of (take n rest) = omega arith in
                       rw (len_is, z) at h in
                       rw (← is_v, long, count, digits, ← is_r) (ap (λ t. (245 + n) ∷ t) (sym (take-append-drop n rest)))
@@ -151,7 +147,7 @@ long-word n len rest v r h bytes e =
         | inr good ↦
             let parts = ok_parts got v (drop n rest) r (rw (room, good) at e) in
             let len_is : length (take n rest) ≡ n = length-take-le n rest (grind (arith, nat_tests)) in
-            rw parts.0 at (fits_word n (take n rest) h len_is (take-bytes n rest bytes))
+            rw parts.0 at (fits_word n (take n rest) h len_is (bytes-take n rest bytes))
       ]
     ]
 
@@ -230,14 +226,14 @@ negative-only n len rest k r h bytes e =
                       let is_k = parts.0 in
                       let is_r = parts.1 in
                       let len_is : length (take n rest) ≡ n = length-take-le n rest (grind (arith, nat_tests)) in
-                      let low : num < 256 ^ n = rw len_is at (number-lt (take n rest) (take-bytes n rest bytes)) in
+                      let low : num < 256 ^ n = rw len_is at (number-lt (take n rest) (bytes-take n rest bytes)) in
                       let s : suc k ≡ got + 1 = omega arith in
                       let count : byte_count (suc k) ≡ n = ap byte_count s ∙ (let w : byte_count (got + 1) ≡ n = grind (arith, nat_tests) in w) in
                       let back : 256 ^ n - suc k ≡ num = omega arith in
                       let wrapped : 2 ^ 64 - suc k ≡ (256 ^ (8 - n) - 1) * 256 ^ n + num =
                       rw back at (left_over (256 ^ n) (256 ^ (8 - n)) (suc k) (powers n h) (power_above (8 - n)) (omega arith)) in
                       let digits : bytes_high_first n (2 ^ 64 - suc k) ≡ take n rest =
-                      rw wrapped (rw len_is at (high-number (256 ^ (8 - n) - 1) (take n rest) (take-bytes n rest bytes))) in
+                      rw wrapped (rw len_is at (high-number (256 ^ (8 - n) - 1) (take n rest) (bytes-take n rest bytes))) in
                       let below : k < 2 ^ 63 = grind (arith, nat_tests) in
                       (below, rw (count, digits, ← is_r) (ap (λ t. (136 - n) ∷ t) (sym (take-append-drop n rest))))
                 ]

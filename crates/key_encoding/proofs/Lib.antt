@@ -9,3 +9,4 @@ pub mod Answered
 pub mod Escapes
 pub mod Unescapes
 pub mod Grammars
+pub mod EscapeWalks

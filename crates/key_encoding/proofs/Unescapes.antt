@@ -2,7 +2,7 @@
 use Rattle.std.proofs.Common.{◌≡◌, ℕ, suc, ◌<◌, List, [], ◌∷◌, ◌++◌, map, length, nat_eq, Bool, true, false, inl, inr, arith, refl, ap, ◌∙◌, sym, Ok, if◌then◌else◌}
 use Rattle.std.proofs.lemmas.Bool.{cases_Bool}
 use Rattle.std.proofs.lemmas.Bool.Decides.{nat_tests}
-use Rattle.key_encoding.specs.Coding.{AreBytes}
+use Rattle.list_laws.specs.Bytes.{AreBytes}
 use Rattle.key_encoding.specs.Spelling.{escaped, turned, bytes_code, bytes_down_code}
 use Rattle.key_encoding.specs.Reading.{unescaped, read_marked, read_bytes, read_bytes_down}
 use Rattle.key_encoding.proofs.Answered.{ok_parts, on_value-ok}
@@ -74,7 +74,7 @@ unescaped-only down len true (x ∷ rest) v r h e =
           ]
     ]
 
-marked-only : (down : Bool) (marker : ℕ) (b v r : List ℕ) → AreBytes b → read_marked down marker b ≡ Ok (v, r) → AreBytes v × (b ≡ marker ∷ map (turned down) (escaped v) ++ r)
+pub marked-only : (down : Bool) (marker : ℕ) (b v r : List ℕ) → AreBytes b → read_marked down marker b ≡ Ok (v, r) → AreBytes v × (b ≡ marker ∷ map (turned down) (escaped v) ++ r)
 marked-only down marker [] v r h e = absurd (cc)
 marked-only down marker (x ∷ rest) v r h e =
     elim (cases_Bool (nat_eq x marker)) [

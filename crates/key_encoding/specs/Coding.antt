@@ -1,12 +1,9 @@
 -- What a code is: spellings whose order is the order of their values, and a reader of just these.
 use Rattle.std.specs.Prelude.{◌≡◌, ℕ, ◌<◌, ◌^◌, ℤ, pos, negsuc, List, ◌++◌, Result, Ok}
-use Rattle.std.specs.List.{AllByRecursion}
 use Rattle.std.specs.declared.cmp.Ordering.{Ordering}
 use Rattle.std.specs.Ordering.{nat_cmp, ordering_then}
 use Rattle.std.specs.Cmp.Lexicographic.{slice_cmp}
-
-abbrev pub AreBytes : List ℕ → Type 0
-AreBytes b = AllByRecursion (λ x. x < 256) b
+use Rattle.list_laws.specs.Bytes.{AreBytes}
 
 -- a number of 64 bits
 abbrev pub IsWord : ℕ → Type 0

@@ -7,8 +7,12 @@ use Rattle.key_encoding.specs.declared.fault.KeyFault.{KeyFault}
 use Rattle.key_encoding.specs.declared.fault.KeyKind.{KeyKind}
 use Rattle.key_encoding.specs.declared.fault.KeyKind.TheVariants.{Short, Marker, NotLeast, Escape, Memory}
 
+-- the fault of a kind at an offset
+abbrev pub fault_at : KeyKind → ℕ → KeyFault
+fault_at k at = record { kind = k; offset = at }
+
 abbrev pub refused : {X : Type 0} → KeyKind → ℕ → Result X KeyFault
-refused k at = Err (record { kind = k; offset = at })
+refused k at = Err (fault_at k at)
 
 -- the number that some bytes spell, the highest first
 abbrev pub number_of : List ℕ → ℕ

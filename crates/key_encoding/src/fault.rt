@@ -1,4 +1,6 @@
 //! Why a key was refused.
+ghost use Rattle.std.specs.Prelude.{◌≡◌};
+ghost use Rattle.key_encoding.specs.Reading.{fault_at};
 
 /// Want of memory.
 #[derive(Debug, Clone, Copy, PartialEq, Eq)]
@@ -24,4 +26,13 @@ pub enum KeyKind {
 pub struct KeyFault {
     pub kind: KeyKind,
     pub offset: usize,
+}
+
+impl KeyFault {
+    /// The fault of a kind at an offset.
+    pub fn at(kind: KeyKind, offset: usize) -> KeyFault
+        ensures { result ≡ fault_at kind offset }
+    {
+        KeyFault { kind, offset }
+    }
 }

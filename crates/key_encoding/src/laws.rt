@@ -2,7 +2,9 @@
 //! reader takes just the spellings, and no spelling begins another.
 ghost use Rattle.std.specs.Ordering.{nat_cmp, int_cmp};
 ghost use Rattle.std.specs.Cmp.Lexicographic.{slice_cmp};
-ghost use Rattle.key_encoding.specs.Coding.{AreBytes, IsCode, IsSignedWord, IsWord, turned_round};
+ghost use Rattle.key_encoding.specs.EscapeFaults.{EscapeFaultsAreFirst};
+ghost use Rattle.key_encoding.specs.Coding.{IsCode, IsSignedWord, IsWord, turned_round};
+ghost use Rattle.list_laws.specs.Bytes.{AreBytes};
 ghost use Rattle.key_encoding.specs.Reading.{read_bytes, read_bytes_down, read_uvarint, read_varint, read_varint_down};
 ghost use Rattle.key_encoding.specs.Spelling.{bytes_code, bytes_down_code, uvarint, varint, varint_down};
 
@@ -29,4 +31,10 @@ pub fn bytes_are_a_code()
 /// A law on bytes in the order turned round.
 pub fn bytes_down_are_a_code()
     ensures { IsCode AreBytes (turned_round (slice_cmp nat_cmp)) bytes_down_code read_bytes_down }
+{}
+
+/// A law: the first byte directly after a 00 that isn't ff is the end of the bytes where it is 01
+/// and else the place of their fault, and where there is none they end too early.
+pub fn escape_faults_are_first()
+    ensures { EscapeFaultsAreFirst }
 {}

@@ -103,34 +103,22 @@ pub fn take_uvarint(b: &[u8]) -> Result<(u64, &[u8]), KeyFault>
     ensures { result_now result ≡ read_uvarint b.now }
 {
     let Some((first, rest)) = b.split_first() else {
-        return Err(KeyFault {
-            kind: KeyKind::Short,
-            offset: 0,
-        });
+        return Err(KeyFault::at(KeyKind::Short, 0));
     };
     if *first < 136 || *first > 253 {
-        return Err(KeyFault {
-            kind: KeyKind::Marker,
-            offset: 0,
-        });
+        return Err(KeyFault::at(KeyKind::Marker, 0));
     }
     if *first <= 245 {
         return Ok((u64::from(*first - 136), rest));
     }
     let count = usize::from(*first - 245);
     if rest.len() < count {
-        return Err(KeyFault {
-            kind: KeyKind::Short,
-            offset: b.len(),
-        });
+        return Err(KeyFault::at(KeyKind::Short, b.len()));
     }
     let (digits, rest) = rest.split_at(count);
     let v = number_of(digits);
     if v < 110 || byte_count(v) != count {
-        return Err(KeyFault {
-            kind: KeyKind::NotLeast,
-            offset: 0,
-        });
+        return Err(KeyFault::at(KeyKind::NotLeast, 0));
     }
     Ok((v, rest))
 }
@@ -152,18 +140,12 @@ fn take_negative(count: usize, b: &[u8], len: usize) -> Result<(u64, &[u8]), Key
     ensures fits { IfOk result (λ p. p.0 < 2 ^ 63) }
 {
     if b.len() < count {
-        return Err(KeyFault {
-            kind: KeyKind::Short,
-            offset: len,
-        });
+        return Err(KeyFault::at(KeyKind::Short, len));
     }
     let (digits, rest) = b.split_at(count);
     let k = greatest(count) - number_of(digits);
     if k > i64::MAX as u64 || byte_count(k + 1) != count {
-        return Err(KeyFault {
-            kind: KeyKind::NotLeast,
-            offset: 0,
-        });
+        return Err(KeyFault::at(KeyKind::NotLeast, 0));
     }
     Ok((k, rest))
 }
@@ -174,10 +156,7 @@ fn take_signed(b: &[u8]) -> Result<((bool, u64), &[u8]), KeyFault>
     ensures fits { IfOk result (λ p. p.0.1 < 2 ^ 63) }
 {
     let Some((first, rest)) = b.split_first() else {
-        return Err(KeyFault {
-            kind: KeyKind::Short,
-            offset: 0,
-        });
+        return Err(KeyFault::at(KeyKind::Short, 0));
     };
     if *first >= 128 && *first < 136 {
         return match take_negative(usize::from(136 - *first), rest, b.len()) {
@@ -187,10 +166,7 @@ fn take_signed(b: &[u8]) -> Result<((bool, u64), &[u8]), KeyFault>
     }
     match take_uvarint(b) {
         Ok((v, rest)) if v <= i64::MAX as u64 => Ok(((false, v), rest)),
-        Ok(_) => Err(KeyFault {
-            kind: KeyKind::NotLeast,
-            offset: 0,
-        }),
+        Ok(_) => Err(KeyFault::at(KeyKind::NotLeast, 0)),
         Err(fault) => Err(fault),
     }
 }

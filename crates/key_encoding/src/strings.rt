@@ -6,7 +6,8 @@ ghost use Rattle.key_encoding.specs.Reading.{read_bytes, read_bytes_down, read_m
 use crate::{KeyFault, KeyKind, Memory};
 use std::alloc::Global;
 
-fn turned(byte: u8, down: bool) -> u8
+/// The byte, or its complement in a descending column.
+fn complement_if(byte: u8, down: bool) -> u8
     ensures { result ≡ turned down byte }
 {
     if down { 255 - byte } else { byte }
@@ -18,10 +19,10 @@ fn put_escaped(byte: u8, down: bool, out: &mut Vec<u8>) -> Result<(), Memory>
     ensures err { OnErr result (out.new.items ≡ out.old.items) }
 {
     if byte == 0 {
-        out.extend_from_slice(&[turned(0, down), turned(255, down)])
+        out.extend_from_slice(&[complement_if(0, down), complement_if(255, down)])
             .map_err(|_| Memory)
     } else {
-        out.push(turned(byte, down)).map_err(|_| Memory)
+        out.push(complement_if(byte, down)).map_err(|_| Memory)
     }
 }
 
@@ -34,7 +35,7 @@ fn put_each(marker: u8, b: &[u8], down: bool, out: &mut Vec<u8>) -> Result<(), M
     for byte in b {
         put_escaped(*byte, down, out)?;
     }
-    out.extend_from_slice(&[turned(0, down), turned(1, down)])
+    out.extend_from_slice(&[complement_if(0, down), complement_if(1, down)])
         .map_err(|_| Memory)
 }
 
@@ -73,28 +74,19 @@ pub fn next_escaped(left: &[u8], len: usize, down: bool) -> Result<(Option<u8>, 
     ensures { result_now result ≡ read_next down len left.now }
 {
     let Some((first, rest)) = left.split_first() else {
-        return Err(KeyFault {
-            kind: KeyKind::Short,
-            offset: len,
-        });
+        return Err(KeyFault::at(KeyKind::Short, len));
     };
-    let first = turned(*first, down);
+    let first = complement_if(*first, down);
     if first != 0 {
         return Ok((Some(first), rest));
     }
     let Some((second, after)) = rest.split_first() else {
-        return Err(KeyFault {
-            kind: KeyKind::Short,
-            offset: len,
-        });
+        return Err(KeyFault::at(KeyKind::Short, len));
     };
-    match turned(*second, down) {
+    match complement_if(*second, down) {
         255 => Ok((Some(0), after)),
         1 => Ok((None, after)),
-        _ => Err(KeyFault {
-            kind: KeyKind::Escape,
-            offset: len - rest.len(),
-        }),
+        _ => Err(KeyFault::at(KeyKind::Escape, len - rest.len())),
     }
 }
 
@@ -114,10 +106,7 @@ fn take_escaped(
         match next_escaped(left, len, down) {
             Ok((Some(byte), rest)) => {
                 if value.push(byte).is_err() {
-                    return Err(KeyFault {
-                        kind: KeyKind::Memory,
-                        offset: 0,
-                    });
+                    return Err(KeyFault::at(KeyKind::Memory, 0));
                 }
                 left = rest;
             }
@@ -136,16 +125,10 @@ fn take_marked(
     ensures { Answers result (read_marked down marker b.now) }
 {
     let Some((first, rest)) = b.split_first() else {
-        return Err(KeyFault {
-            kind: KeyKind::Short,
-            offset: 0,
-        });
+        return Err(KeyFault::at(KeyKind::Short, 0));
     };
     if *first != marker {
-        return Err(KeyFault {
-            kind: KeyKind::Marker,
-            offset: 0,
-        });
+        return Err(KeyFault::at(KeyKind::Marker, 0));
     }
     take_escaped(alloc, rest, b.len(), down)
 }

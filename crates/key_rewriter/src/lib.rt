@@ -8,6 +8,3 @@ mod rewriting;
 pub use id_map::{IdMap, are_ascending};
 pub use laws::{rewritten_keys_differ, rewritten_keys_keep_their_order};
 pub use rewriting::{RewriteFault, rewrite};
-
-#[cfg(test)]
-mod tests;

@@ -10,11 +10,13 @@ use Rattle.std.proofs.lemmas.Bool.Decides.{nat_tests}
 use Rattle.std.proofs.lemmas.Str.{length-encode, IsUtf8-nil, IsUtf8-encode, IsUtf8-append, IsUtf8-from_is_utf8, is_utf8-from_IsUtf8, chars_past_char, encodes-chars, scalars-chars}
 use Rattle.key_encoding.specs.declared.fault.KeyFault.{KeyFault}
 use Rattle.std.proofs.Math.Seq.{take-suc-set}
+use Rattle.key_encoding.proofs.Answered.{ok_parts}
 use Rattle.key_encoding.specs.Reading.{after_zero, on_value, read_next, unescaped}
 use Rattle.key_encoding.specs.Spelling.{turned}
 use Rattle.row_codec.specs.KeyChecking.{IsPart, held_bytes, text_after}
 use Rattle.row_codec.specs.declared.checks.Held.{Held}
 use Rattle.row_codec.proofs.KeyOrder.{both_true}
+use Rattle.list_laws.proofs.Places.{none-left}
 
 -- two tests that say the same
 same_test : (a b : Bool) → (a ≡ true → b ≡ true) → (b ≡ true → a ≡ true) → a ≡ b
@@ -67,10 +69,6 @@ past_char c v s = same_test (is_utf8 (encode c ++ v)) (is_utf8 v) (λ t.
     is_utf8-from_IsUtf8 v (chars v, ((both_true (scalar c) (scalars (chars v)) all).1, append_cancel_left (encode c) (encodes (chars v)) v spell))) (λ t.
     is_utf8-from_IsUtf8 (encode c ++ v) (IsUtf8-append (encode c) v (IsUtf8-encode c s) (IsUtf8-from_is_utf8 v t)))
 
-no_bytes : (b : List ℕ) → length b ≡ 0 → b ≡ []
-no_bytes [] h = refl
-no_bytes (x ∷ b) h = absurd (omega arith)
-
 -- a whole character
 pub whole_char : (b v : List ℕ) → 0 < length b → is_utf8 b ≡ true → ((m : ℕ) → 0 < m → m < length b → is_utf8 (take m b) ≡ false) → is_utf8 (b ++ v) ≡ is_utf8 v
 whole_char b v some t none =
@@ -85,7 +83,7 @@ whole_char b v some t none =
           let no = none n w.0 (grind (arith, nat_tests)) in
           absurd (cc)
       | inr all ↦
-          let rest : f.1 ≡ [] = no_bytes f.1 (let le : length b ≤ n = grind (arith, nat_tests) in omega arith) in
+          let rest : f.1 ≡ [] = none-left f.1 (let le : length b ≤ n = grind (arith, nat_tests) in omega arith) in
           let is : b ≡ encode f.0 = f.2 ∙ (ap (λ u. encode f.0 ++ u) rest ∙ append-nil (encode f.0)) in
           rw is (past_char f.0 v f.3)
     ]
@@ -139,11 +137,6 @@ last_step h x (Err e) part l f four = refl
 abbrev continued : Bool → ℕ → Option ℕ → List ℕ → Result (List ℕ × List ℕ) KeyFault
 continued down len (Some x) rest = on_value (λ v. x ∷ v) (unescaped down len false rest)
 continued down len None rest = Ok ([], rest)
-
-ok_parts : {X : Type 0} (a v : X) (b r : List ℕ) → (let x : Result (X × List ℕ) KeyFault = Ok (a, b) in x ≡ Ok (v, r)) → (a ≡ v) × (b ≡ r)
-ok_parts {X} a v b r e =
-    let pairs : (let x : X × List ℕ = (a, b) in x ≡ (v, r)) = cc in
-    (ap (λ (p : X × List ℕ). p.0) pairs, ap (λ (p : X × List ℕ). p.1) pairs)
 
 zero-is : (down : Bool) (n len : ℕ) (b : List ℕ) (o : Option ℕ) (rest : List ℕ) → after_zero down n b ≡ Ok (o, rest) → unescaped down len true b ≡ continued down len o rest
 zero-is down n len [] o rest e = absurd (cc)

@@ -1,10 +1,11 @@
 -- Row keys are read as they are written.
-use Rattle.std.proofs.Common.{◌≡◌, ℕ, ℤ, suc, pos, negsuc, ◌-◌, ◌<◌, ◌^◌, Bool, true, false, List, [], ◌∷◌, ◌++◌, length, nat_eq, nat_lt, Option, Some, None, Result, Ok, Err, inl, inr, arith, refl, sym, ap, ◌∙◌, append_assoc, append-nil}
+use Rattle.std.proofs.Common.{◌≡◌, ℕ, ℤ, pos, negsuc, ◌-◌, ◌<◌, ◌^◌, Bool, true, false, List, [], ◌∷◌, ◌++◌, length, nat_eq, nat_lt, Option, Some, None, Result, Ok, Err, inl, inr, arith, refl, sym, ap, ◌∙◌, append_assoc, append-nil}
 use Rattle.std.specs.Option.{option_map}
 use Rattle.std.specs.Str.{is_utf8}
 use Rattle.std.proofs.lemmas.Bool.{cases_Bool}
 use Rattle.std.proofs.lemmas.Bool.Decides.{nat_tests}
-use Rattle.key_encoding.specs.Coding.{AreBytes, IsSignedWord}
+use Rattle.key_encoding.specs.Coding.{IsSignedWord}
+use Rattle.list_laws.specs.Bytes.{AreBytes}
 use Rattle.key_encoding.specs.Spelling.{uvarint}
 use Rattle.key_encoding.specs.Reading.{read_uvarint}
 use Rattle.key_encoding.specs.declared.fault.KeyFault.{KeyFault}
@@ -18,6 +19,8 @@ use Rattle.row_codec.specs.declared.rows.Kind.TheVariants.{Int as KindInt, Text 
 use Rattle.row_codec.specs.declared.rows.Datum.{Datum}
 use Rattle.row_codec.specs.declared.rows.Datum.TheVariants.{Int, Text, Bytes, Bool as Truth}
 use Rattle.row_codec.proofs.KeyOrder.{both_true, truth_fits}
+use Rattle.list_laws.proofs.Bytes.{bytes-after}
+use Rattle.list_laws.proofs.Places.{none-left_test}
 
 -- ---- answers
 
@@ -53,10 +56,6 @@ valued-some {X} f (Ok p) y rest e =
     (p.0, ap (λ (u : List ℕ). let w : Result (X × List ℕ) KeyFault = Ok (p.0, u) in w) is.1, is.0)
 valued-some f (Err err) y rest e = absurd (cc)
 
-pub bytes-after : (xs ys : List ℕ) → AreBytes (xs ++ ys) → AreBytes ys
-bytes-after [] ys h = h
-bytes-after (x ∷ xs) ys h = bytes-after xs ys h.1
-
 -- ---- values
 
 number-found : (down : Bool) (z : ℤ) (r : List ℕ) → IsSignedWord z → read_number down (number_code down z ++ r) ≡ Ok (z, r)
@@ -82,7 +81,7 @@ truth-found down false r = rw (number-found down (pos 0) r (truth_fits false)) r
 text-found : (down : Bool) (t r : List ℕ) → AreBytes t × (is_utf8 t ≡ true) → valued a_text (read_string down (string_code down t ++ r)) ≡ Some (Text t, r)
 text-found down t r h = rw (string-found down t r h.0, h.1) refl
 
-datum-found : (k : Kind) (x : Datum) (r : List ℕ) → is_of_kind k x ≡ true → IsValue x → read_datum k (datum_code (is_down k) x ++ r) ≡ Some (x, r)
+pub datum-found : (k : Kind) (x : Datum) (r : List ℕ) → is_of_kind k x ≡ true → IsValue x → read_datum k (datum_code (is_down k) x ++ r) ≡ Some (x, r)
 unfolding read_datum
 datum-found KindInt (Int n) r e h = rw (number-found false n r h) refl
 datum-found IntDown (Int n) r e h = rw (number-found true n r h) refl
@@ -138,7 +137,7 @@ truth-only down b x r h e =
     let is = truth-is read.0 x read.2 in
     rw (← is.2) (refl, tt, rw is.1 at only.1)
 
-datum-only : (k : Kind) (b : List ℕ) (x : Datum) (r : List ℕ) → AreBytes b → read_datum k b ≡ Some (x, r) → IsSpelled (kind_rank k) (is_down k) b x r
+pub datum-only : (k : Kind) (b : List ℕ) (x : Datum) (r : List ℕ) → AreBytes b → read_datum k b ≡ Some (x, r) → IsSpelled (kind_rank k) (is_down k) b x r
 unfolding read_datum
 datum-only KindInt b x r h e = int-only false b x r h e
 datum-only IntDown b x r h e = int-only true b x r h e
@@ -194,7 +193,7 @@ id-only b n r h e =
     let is = id-is read.0 n read.2 in
     rw (← is.1) (is.0, (uvarint-only b read.0 r h read.1).1)
 
-byte-only : (x : ℕ) (b r : List ℕ) → read_byte x b ≡ Some r → b ≡ x ∷ r
+pub byte-only : (x : ℕ) (b r : List ℕ) → read_byte x b ≡ Some r → b ≡ x ∷ r
 byte-only x [] r e = absurd (cc)
 byte-only x (y ∷ b) r e =
     elim (cases_Bool (nat_eq y x)) [
@@ -245,14 +244,10 @@ key-only kinds len b t xs r h e =
     let whole : b ≡ uvarint table.0.0 ++ 137 ∷ (values_code kinds xs ++ r) = id.1 ∙ ap (λ u. uvarint table.0.0 ++ u) (mark ∙ ap (λ u. 137 ∷ u) rest.2) in
     (rw rest.0 at id.0, rest.1, rw rest.0 at whole ∙ sym (append_assoc (uvarint t) (137 ∷ values_code kinds xs) r))
 
-none_left : (r : List ℕ) → nat_eq (length r) 0 ≡ true → r ≡ []
-none_left [] e = refl
-none_left (x ∷ r) e = absurd (let w : suc (length r) ≡ 0 = grind (arith, nat_tests) in omega arith)
-
 all_read-ok : {X : Type 0} (len : ℕ) (p : X × List ℕ) (x : X) → all_read len p ≡ Ok x → (p.0 ≡ x) × (p.1 ≡ [])
 all_read-ok len p x e =
     elim (cases_Bool (nat_eq (length p.1) 0)) [
-      | inl z ↦ (ok_is p.0 x (rw z at e), none_left p.1 z)
+      | inl z ↦ (ok_is p.0 x (rw z at e), none-left_test p.1 z)
       | inr f ↦ let e' = rw f at e in absurd (cc)
     ]
 

@@ -5,3 +5,5 @@ pub mod KeyLaws
 pub mod ValueLaws
 pub mod CharSteps
 pub mod KeyTests
+pub mod FaultWalks
+pub mod KeyFaults

@@ -5,7 +5,7 @@ use Rattle.std.specs.List.{AllByRecursion}
 use Rattle.std.proofs.lemmas.Bool.{cases_Bool}
 use Rattle.std.proofs.lemmas.Bool.Decides.{nat_tests}
 use Rattle.std.proofs.lemmas.List.{take_at, drop_at, take-append-drop, length-take-le}
-use Rattle.key_encoding.specs.Coding.{AreBytes}
+use Rattle.list_laws.specs.Bytes.{AreBytes}
 use Rattle.key_encoding.specs.Spelling.{uvarint}
 use Rattle.key_encoding.specs.Reading.{read_uvarint, read_varint}
 use Rattle.key_encoding.specs.declared.fault.KeyFault.{KeyFault}
@@ -19,15 +19,37 @@ use Rattle.row_codec.specs.declared.rows.Cell.{Cell}
 use Rattle.row_codec.specs.declared.rows.Datum.{Datum}
 use Rattle.row_codec.specs.declared.rows.Datum.TheVariants.{Int, Text, Bytes, Bool as Truth, Null}
 use Rattle.row_codec.proofs.KeyOrder.{both_true}
-use Rattle.row_codec.proofs.KeyLaws.{pair_parts, some_is, valued-some, bytes-after, id-found, id-only, text-is}
+use Rattle.row_codec.proofs.KeyLaws.{pair_parts, some_is, valued-some, id-found, id-only, text-is}
+use Rattle.list_laws.proofs.Bytes.{bytes-after, bytes-before}
 
--- ---- values
+-- ---- bytes with their length in front
 
-sized-found : (b r : List ℕ) → length b < 2 ^ 64 → read_sized (sized b ++ r) ≡ Some (b, r)
+pub sized-found : (b r : List ℕ) → length b < 2 ^ 64 → read_sized (sized b ++ r) ≡ Some (b, r)
 unfolding read_sized
 sized-found b r h =
     let room : nat_le (length b) (length (b ++ r)) ≡ true = let l = length-append b r in grind (arith, nat_tests) in
     rw (append_assoc (uvarint (length b)) b r, uvarint-found (length b) (b ++ r) h, room, take_at b r (length b) refl, drop_at b r (length b) refl) refl
+
+cut-some : (o : Result (ℕ × List ℕ) KeyFault) (v r : List ℕ) → cut o ≡ Some (v, r) → (n : ℕ) × (t : List ℕ) × (o ≡ Ok (n, t)) × (length v ≡ n) × (t ≡ v ++ r)
+cut-some (Ok p) v r e =
+    elim (cases_Bool (nat_le p.0 (length p.1))) [
+      | inl y ↦
+          let parts = pair_parts (take p.0 p.1, drop p.0 p.1) (v, r) (some_is (take p.0 p.1, drop p.0 p.1) (v, r) (rw y at e)) in
+          (p.0, p.1, refl, rw (← parts.0) (length-take-le p.0 p.1 (grind (arith, nat_tests))), rw (← parts.0, ← parts.1) (sym (take-append-drop p.0 p.1)))
+      | inr f ↦ let e' = rw f at e in absurd (cc)
+    ]
+cut-some (Err err) v r e = absurd (cc)
+
+pub sized-only : (b v r : List ℕ) → AreBytes b → read_sized b ≡ Some (v, r) → (length v < 2 ^ 64) × AreBytes v × (b ≡ sized v ++ r)
+unfolding read_sized
+sized-only b v r h e =
+    let read = cut-some (read_uvarint b) v r e in
+    let only = uvarint-only b read.0 read.1 h read.2 in
+    let front : b ≡ uvarint (length v) ++ read.1 = rw read.3 only.1 in
+    let whole : b ≡ uvarint (length v) ++ (v ++ r) = front ∙ ap (λ t. uvarint (length v) ++ t) read.4 in
+    (rw read.3 only.0, bytes-before v r (bytes-after (uvarint (length v)) (v ++ r) (rw whole at h)), whole ∙ sym (append_assoc (uvarint (length v)) v r))
+
+-- ---- values
 
 marked-found : (x : Datum) (r : List ℕ) → 0 < rank x → IsValue x → IsSized x → read_marked_value (marked_value x ++ r) ≡ Some (x, r)
 unfolding marked_value read_marked_value
@@ -41,29 +63,6 @@ marked-found Null r p h s = absurd (omega arith)
 -- what was read is a value, and it is spelled there
 abbrev IsMarked : List ℕ → Datum → List ℕ → Type 0
 IsMarked b x r = (0 < rank x) × IsValue x × IsSized x × (b ≡ marked_value x ++ r)
-
-bytes-before : (xs ys : List ℕ) → AreBytes (xs ++ ys) → AreBytes xs
-bytes-before [] ys h = tt
-bytes-before (x ∷ xs) ys h = (h.0, bytes-before xs ys h.1)
-
-cut-some : (o : Result (ℕ × List ℕ) KeyFault) (v r : List ℕ) → cut o ≡ Some (v, r) → (n : ℕ) × (t : List ℕ) × (o ≡ Ok (n, t)) × (length v ≡ n) × (t ≡ v ++ r)
-cut-some (Ok p) v r e =
-    elim (cases_Bool (nat_le p.0 (length p.1))) [
-      | inl y ↦
-          let parts = pair_parts (take p.0 p.1, drop p.0 p.1) (v, r) (some_is (take p.0 p.1, drop p.0 p.1) (v, r) (rw y at e)) in
-          (p.0, p.1, refl, rw (← parts.0) (length-take-le p.0 p.1 (grind (arith, nat_tests))), rw (← parts.0, ← parts.1) (sym (take-append-drop p.0 p.1)))
-      | inr f ↦ let e' = rw f at e in absurd (cc)
-    ]
-cut-some (Err err) v r e = absurd (cc)
-
-sized-only : (b v r : List ℕ) → AreBytes b → read_sized b ≡ Some (v, r) → (length v < 2 ^ 64) × AreBytes v × (b ≡ sized v ++ r)
-unfolding read_sized
-sized-only b v r h e =
-    let read = cut-some (read_uvarint b) v r e in
-    let only = uvarint-only b read.0 read.1 h read.2 in
-    let front : b ≡ uvarint (length v) ++ read.1 = rw read.3 only.1 in
-    let whole : b ≡ uvarint (length v) ++ (v ++ r) = front ∙ ap (λ t. uvarint (length v) ++ t) read.4 in
-    (rw read.3 only.0, bytes-before v r (bytes-after (uvarint (length v)) (v ++ r) (rw whole at h)), whole ∙ sym (append_assoc (uvarint (length v)) v r))
 
 made-some : (f : List ℕ → Option Datum) (o : Option (List ℕ × List ℕ)) (x : Datum) (r : List ℕ) → made f o ≡ Some (x, r) → (v : List ℕ) × (o ≡ Some (v, r)) × (f v ≡ Some x)
 made-some f (Some p) x r e = by (f p.0) refl e
@@ -133,7 +132,7 @@ marked-only (mark ∷ b) x r h e =
       ]
     ]
 
-cell-found : (last : ℕ) (c : Cell) (r : List ℕ) → nat_lt last c.column ≡ true → 0 < rank c.datum → IsCell c → read_cell last (cell_code c ++ r) ≡ Some (c, r)
+pub cell-found : (last : ℕ) (c : Cell) (r : List ℕ) → nat_lt last c.column ≡ true → 0 < rank c.datum → IsCell c → read_cell last (cell_code c ++ r) ≡ Some (c, r)
 unfolding read_cell
 cell-found last c r above some h =
     rw (append_assoc (uvarint c.column) (marked_value c.datum) r, id-found c.column (marked_value c.datum ++ r) h.0, above, marked-found c.datum r some h.1 h.2) refl
@@ -167,7 +166,7 @@ cell-only last b c r h e =
     let value = marked-only column.0 c.datum r (bytes-after (uvarint c.column) column.0 (rw id.1 at h)) column.3 in
     (column.2, value.0, (id.0, value.1, value.2), id.1 ∙ (ap (λ t. uvarint c.column ++ t) value.3 ∙ sym (append_assoc (uvarint c.column) (marked_value c.datum) r)))
 
-cell-rest : (last : ℕ) (b : List ℕ) (c : Cell) (r : List ℕ) → AreBytes b → read_cell last b ≡ Some (c, r) → AreBytes r
+pub cell-rest : (last : ℕ) (b : List ℕ) (c : Cell) (r : List ℕ) → AreBytes b → read_cell last b ≡ Some (c, r) → AreBytes r
 cell-rest last b c r h e = bytes-after (cell_code c) r (rw (cell-only last b c r h e).3 at h)
 
 code-taken : (c : Cell) (r : List ℕ) → c.column < 2 ^ 32 → length r < length (cell_code c ++ r)

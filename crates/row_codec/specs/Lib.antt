@@ -4,3 +4,4 @@ pub mod RowKeys
 pub mod RowValues
 pub mod Views
 pub mod KeyChecking
+pub mod FirstFaults

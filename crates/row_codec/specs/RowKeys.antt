@@ -2,7 +2,8 @@
 use Rattle.std.specs.Prelude.{◌≡◌, ℕ, ◌^◌, ◌<◌, ℤ, pos, Bool, true, false, ◌&&◌, nat_eq, Ok, List, [], ◌∷◌, ◌++◌, if◌then◌else◌}
 use Rattle.std.specs.List.{AllByRecursion}
 use Rattle.std.specs.Str.{is_utf8}
-use Rattle.key_encoding.specs.Coding.{AreBytes, IsSignedWord, IsOrderedCode}
+use Rattle.key_encoding.specs.Coding.{IsSignedWord, IsOrderedCode}
+use Rattle.list_laws.specs.Bytes.{AreBytes}
 use Rattle.key_encoding.specs.Spelling.{uvarint, varint, varint_down, bytes_code, bytes_down_code}
 use Rattle.row_codec.specs.KeyReading.{read_row_key}
 use Rattle.row_codec.specs.RowOrder.{rank, is_down, row_cmp}

@@ -1,7 +1,7 @@
 -- Row values: lists of cells with ascending column ids, how they are spelled and read.
 use Rattle.std.specs.Prelude.{◌≡◌, ℕ, zero, suc, ◌-◌, ◌^◌, ◌<◌, Bool, true, false, ◌&&◌, nat_lt, nat_le, nat_eq, Option, Some, None, Result, Ok, Err, List, [], ◌∷◌, ◌++◌, length, take, drop, if◌then◌else◌}
 use Rattle.std.specs.List.{AllByRecursion}
-use Rattle.key_encoding.specs.Coding.{AreBytes}
+use Rattle.list_laws.specs.Bytes.{AreBytes}
 use Rattle.key_encoding.specs.Spelling.{uvarint, varint}
 use Rattle.key_encoding.specs.Reading.{read_uvarint, read_varint}
 use Rattle.key_encoding.specs.declared.fault.KeyFault.{KeyFault}

@@ -3,23 +3,14 @@ ghost use Rattle.std.specs.Prelude.{◌≡◌, ◌++◌, ◌∷◌, ◌-◌, len
 ghost use Rattle.std.specs.Str.{is_utf8};
 ghost use Rattle.key_encoding.specs.Reading.{Answers, no_memory, read_uvarint, result_now};
 ghost use Rattle.key_encoding.specs.declared.fault.KeyFault.{KeyFault};
-ghost use Rattle.row_codec.specs.RowOrder.{is_down};
 ghost use Rattle.row_codec.specs.RowKeys.{datum_code, number_code, string_code, values_code, row_key, is_of_kind, are_of_kinds};
 ghost use Rattle.row_codec.specs.KeyReading.{FaultGives, Gives, or_at, valued, an_id, a_number, a_text, some_bytes, a_truth, read_byte, read_number, read_string, read_datum, read_values, read_key_front, read_row_key};
 
 use crate::fields::{take_byte, take_id};
+use crate::order::is_down;
 use crate::{Blob, Datum, Kind, Memory, Row, RowFault, Text};
 use key_encoding::{KeyFault, KeyKind};
 use std::alloc::Global;
-
-fn is_down(kind: Kind) -> bool
-    ensures { result ≡ is_down kind }
-{
-    matches!(
-        kind,
-        Kind::IntDown | Kind::TextDown | Kind::BytesDown | Kind::BoolDown
-    )
-}
 
 /// Whether a value is of a kind; NULL is of none.
 pub fn is_of_kind(kind: Kind, value: &Datum) -> bool

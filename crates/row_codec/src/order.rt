@@ -30,7 +30,8 @@ pub fn datum_cmp(x: &Datum, y: &Datum) -> Ordering
     }
 }
 
-fn is_down(kind: Kind) -> bool
+/// Whether a kind is that of a descending column.
+pub(crate) fn is_down(kind: Kind) -> bool
     ensures { result ≡ is_down kind }
 {
     matches!(

@@ -8,7 +8,7 @@ ghost use Rattle.row_codec.specs.KeyReading.{Gives, or_at, a_number, a_text, an_
 ghost use Rattle.row_codec.specs.RowValues.{are_cells, sized, made, read_flag, marked_value, cell_code, row_value, read_sized, read_marked_value, read_cell, read_cells, with_cell, read_row_value, reads};
 ghost use Rattle.row_codec.specs.Views.{seen, seen_cell};
 
-use crate::fields::take_id;
+use crate::fields::{put_sized, take_id, take_sized};
 use crate::{Blob, Cell, Datum, Memory, RowFault, Text};
 use std::alloc::Global;
 
@@ -29,13 +29,12 @@ pub fn are_cells(cells: &[Cell]) -> bool
 // ---- writing
 
 /// Appends a mark, a length and bytes; where memory is wanting, a part of them.
-fn put_sized(mark: u8, b: &[u8], out: &mut Vec<u8>) -> Result<(), Memory>
+fn put_marked(mark: u8, b: &[u8], out: &mut Vec<u8>) -> Result<(), Memory>
     ensures ok { OnOk result (out.new.items ≡ out.old.items ++ mark ∷ sized b.now) }
     ensures err { OnErr result (take (length out.old.items) out.new.items ≡ out.old.items) }
 {
     out.push(mark).map_err(|_| Memory)?;
-    key_encoding::put_uvarint(b.len() as u64, out).map_err(|_| Memory)?;
-    out.extend_from_slice(b).map_err(|_| Memory)
+    put_sized(b, out)
 }
 
 fn put_int(n: i64, out: &mut Vec<u8>) -> Result<(), Memory>
@@ -53,8 +52,8 @@ fn put_marked_value(value: &Datum, out: &mut Vec<u8>) -> Result<(), Memory>
 {
     match value {
         Datum::Int(n) => put_int(*n, out),
-        Datum::Text(text) => put_sized(2, text.as_bytes(), out),
-        Datum::Bytes(bytes) => put_sized(3, bytes.as_slice(), out),
+        Datum::Text(text) => put_marked(2, text.as_bytes(), out),
+        Datum::Bytes(bytes) => put_marked(3, bytes.as_slice(), out),
         Datum::Bool(b) => out
             .extend_from_slice(&[4, u8::from(*b)])
             .map_err(|_| Memory),
@@ -103,16 +102,6 @@ pub enum DatumView<'a> {
     Text(&'a str),
     Bytes(&'a [u8]),
     Bool(bool),
-}
-
-#[tactic(auto, unfolding(crate::specs::RowValues::read_sized))]
-fn take_sized(b: &[u8]) -> Option<(&[u8], &[u8])>
-    ensures { option_map (λ p. (p.0.now, p.1.now)) result ≡ read_sized b.now }
-{
-    match key_encoding::take_uvarint(b) {
-        Ok((len, rest)) if len <= rest.len() as u64 => Some(rest.split_at(len as usize)),
-        _ => None,
-    }
 }
 
 fn take_int(b: &[u8]) -> Option<(DatumView<'_>, &[u8])>
