@@ -1,8 +1,8 @@
 pub mod Lists
-pub mod TimeLaws
 pub mod DateLaws
 pub mod KeyLaws
 pub mod PieceLaws
 pub mod SplitLaws
 pub mod MadeLaws
-pub mod JoinLaws
+pub mod CoverLaws
+pub mod OriginalLaws

@@ -1,81 +1,18 @@
 -- Lists that ascend, filters, and last elements.
-use Rattle.std.proofs.Common.{◌≡◌, ℕ, ◌<◌, ◌≤◌, ◌+◌, zero, suc, ◌-◌, Bool, true, false, not, cond, List, [], ◌∷◌, ◌++◌, length, get_or, set, take, drop, Result, Ok, Err, OnOk, OnErr, Some, map, filter, refl, sym, ap, ap₂, ◌∙◌, subst, arith, true≢false, ◌⊎◌, inl, inr}
+use Rattle.std.proofs.Common.{◌≡◌, ℕ, ◌<◌, ◌≤◌, ◌+◌, zero, suc, ◌-◌, Bool, true, false, not, cond, List, [], ◌∷◌, ◌++◌, length, get_or, set, take, drop, Some, map, filter, refl, sym, ap, ◌∙◌, subst, arith, inl, inr}
 use Rattle.std.specs.List.{AllByRecursion, slice_get}
-use Rattle.std.specs.Result.{is_err}
 use Rattle.std.proofs.lemmas.Grind.{common_steps}
 use Rattle.std.proofs.lemmas.List.Edits.{map_over_more}
 use Rattle.range_tombstones.specs.Dates.{Ascends, last_after, last_of}
-
--- x is in the list
-abbrev pub Has : {X : Type 0} → X → List X → Type 0
-Has x [] = ⊥
-Has x (y ∷ ys) = (x ≡ y) ⊎ Has x ys
+use Rattle.list_laws.proofs.Members.{filter-has, AllByRecursion-has}
+use Rattle.list_laws.specs.Members.{Has}
 
 pub all-has : {X : Type 0} (P : X → Type 0) (xs : List X) → AllByRecursion P xs → (x : X) → Has x xs → P x
 all-has P [] a x h = absurd h
 all-has P (y ∷ ys) a x (inl e) = subst P (sym e) a.0
 all-has P (y ∷ ys) a x (inr h) = all-has P ys a.1 x h
 
-pub has-all : {X : Type 0} (P : X → Type 0) (xs : List X) → ((x : X) → Has x xs → P x) → AllByRecursion P xs
-has-all P [] f = tt
-has-all P (y ∷ ys) f = (f y (inl refl), has-all P ys (λ x h. f x (inr h)))
-
-pub all-append : {X : Type 0} (P : X → Type 0) (xs ys : List X) → AllByRecursion P xs → AllByRecursion P ys → AllByRecursion P (xs ++ ys)
-all-append P [] ys a b = b
-all-append P (x ∷ xs) ys a b = (a.0, all-append P xs ys a.1 b)
-
-pub filter-has : {X : Type 0} (p : X → Bool) (x : X) (xs : List X) → Has x (filter p xs) → Has x xs
-filter-has p x [] h = h
-filter-has p x (y ∷ ys) h = by (p y) (filter-has p x ys) h
-  where
-    by : (b : Bool) → (Has x (filter p ys) → Has x ys) → Has x (cond b (y ∷ filter p ys) (filter p ys)) → (x ≡ y) ⊎ Has x ys
-    by true more (inl e) = inl e
-    by true more (inr i) = inr (more i)
-    by false more i = inr (more i)
-
-pub all-filter : {X : Type 0} (P : X → Type 0) (p : X → Bool) (xs : List X) → AllByRecursion P xs → AllByRecursion P (filter p xs)
-all-filter P p xs a = has-all P (filter p xs) (λ x h. all-has P xs a x (filter-has p x xs h))
-
-pub filter-passes : {X : Type 0} (p : X → Bool) (x : X) (xs : List X) → Has x (filter p xs) → p x ≡ true
-filter-passes p x [] h = absurd h
-filter-passes p x (y ∷ ys) h = by (p y) refl (filter-passes p x ys) h
-  where
-    by : (b : Bool) → p y ≡ b → (Has x (filter p ys) → p x ≡ true) → Has x (cond b (y ∷ filter p ys) (filter p ys)) → p x ≡ true
-    by true e more (inl q) = ap p q ∙ e
-    by true e more (inr i) = more i
-    by false e more i = more i
-
 -- ---- filters
-
-pub filter-same : {X : Type 0} (p q : X → Bool) (xs : List X) → ((x : X) → Has x xs → p x ≡ q x) → filter p xs ≡ filter q xs
-filter-same p q [] e = refl
-filter-same p q (x ∷ xs) e = ap₂ (λ (b : Bool) ys. cond b (x ∷ ys) ys) (e x (inl refl)) (filter-same p q xs (λ y h. e y (inr h)))
-
-pub filter-all : {X : Type 0} (p : X → Bool) (xs : List X) → ((x : X) → Has x xs → p x ≡ true) → filter p xs ≡ xs
-filter-all p [] e = refl
-filter-all p (x ∷ xs) e = rw (e x (inl refl)) (ap (λ ys. x ∷ ys) (filter-all p xs (λ y h. e y (inr h))))
-
-pub filter-none : {X : Type 0} (p : X → Bool) (xs : List X) → ((x : X) → Has x xs → p x ≡ false) → filter p xs ≡ []
-filter-none p [] e = refl
-filter-none p (x ∷ xs) e = rw (e x (inl refl)) (filter-none p xs (λ y h. e y (inr h)))
-
-pub filter-filter : {X : Type 0} (p q : X → Bool) (xs : List X) → filter p (filter q xs) ≡ filter q (filter p xs)
-filter-filter p q [] = refl
-filter-filter p q (x ∷ xs) = by (p x) refl (q x) refl (filter-filter p q xs)
-  where
-    by : (a : Bool) → p x ≡ a → (b : Bool) → q x ≡ b → filter p (filter q xs) ≡ filter q (filter p xs) → filter p (cond b (x ∷ filter q xs) (filter q xs)) ≡ filter q (cond a (x ∷ filter p xs) (filter p xs))
-    by true e true f h = rw (e, f) (ap (λ ys. x ∷ ys) h)
-    by true e false f h = rw (f) h
-    by false e true f h = rw (e) h
-    by false e false f h = h
-
-pub filter-map : {X Y : Type 0} (p : Y → Bool) (f : X → Y) (xs : List X) → filter p (map f xs) ≡ map f (filter (λ x. p (f x)) xs)
-filter-map p f [] = refl
-filter-map p f (x ∷ xs) = by (p (f x)) (filter-map p f xs)
-  where
-    by : (b : Bool) → filter p (map f xs) ≡ map f (filter (λ y. p (f y)) xs) → cond b (f x ∷ filter p (map f xs)) (filter p (map f xs)) ≡ map f (cond b (x ∷ filter (λ y. p (f y)) xs) (filter (λ y. p (f y)) xs))
-    by true h = ap (λ ys. f x ∷ ys) h
-    by false h = h
 
 -- where a test passes up to a place and at none after it
 pub front : {X : Type 0} (p : X → Bool) (xs : List X) (i : ℕ) → i ≤ length xs → ((k : ℕ) (d : X) → k < i → p (get_or xs k d) ≡ true) → ((k : ℕ) (d : X) → i ≤ k → k < length xs → p (get_or xs k d) ≡ false) → take i xs ≡ filter p xs
@@ -115,12 +52,12 @@ module _ {X : Type 0} (lt : X → X → Bool) where
   ascends-filter p (x ∷ xs) a = by (p x) (ascends-filter p xs a.1)
     where
       by : (b : Bool) → Ascends lt (filter p xs) → Ascends lt (cond b (x ∷ filter p xs) (filter p xs))
-      by true h = (has-all (λ y. lt x y ≡ true) (filter p xs) (λ y i. all-has (λ z. lt x z ≡ true) xs a.0 y (filter-has p y xs i)), h)
+      by true h = (AllByRecursion-has (λ y. lt x y ≡ true) (filter p xs) (λ y i. all-has (λ z. lt x z ≡ true) xs a.0 y (filter-has p y xs i)), h)
       by false h = h
 
   pub ascends-put : ((x y z : X) → lt x y ≡ true → lt y z ≡ true → lt x z ≡ true) → (x : X) (xs ys : List X) → Ascends lt xs → Ascends lt ys → ((y : X) → Has y xs → lt y x ≡ true) → ((y : X) → Has y ys → lt x y ≡ true) → Ascends lt (xs ++ x ∷ ys)
-  ascends-put trans x [] ys a b f g = (has-all (λ y. lt x y ≡ true) ys g, b)
-  ascends-put trans x (y ∷ xs) ys a b f g = (has-all (λ z. lt y z ≡ true) (xs ++ x ∷ ys) (λ z h. below z xs h a.0), ascends-put trans x xs ys a.1 b (λ z h. f z (inr h)) g)
+  ascends-put trans x [] ys a b f g = (AllByRecursion-has (λ y. lt x y ≡ true) ys g, b)
+  ascends-put trans x (y ∷ xs) ys a b f g = (AllByRecursion-has (λ z. lt y z ≡ true) (xs ++ x ∷ ys) (λ z h. below z xs h a.0), ascends-put trans x xs ys a.1 b (λ z h. f z (inr h)) g)
     where
       yx : lt y x ≡ true
       yx = f y (inl refl)
@@ -160,33 +97,9 @@ map-more f xs ys i x y l m at e = ap (set ys i) e ∙ map_over_more f xs ys i x 
 
 -- ---- answers of calls
 
-pub on-any : {T E : Type 0} (r : Result T E) (P : Type 0) → P → OnErr r P
-on-any (Ok x) P p = tt
-on-any (Err e) P p = p
-
-pub on-err : {T E : Type 0} (r : Result T E) (P : Type 0) → is_err r ≡ true → OnErr r P → P
-on-err (Ok x) P e p = absurd (true≢false (sym e))
-on-err (Err x) P e p = p
-
-pub on-ok : {T E : Type 0} (r : Result T E) (P : Type 0) → is_err r ≡ false → OnOk r P → P
-on-ok (Ok x) P e p = p
-on-ok (Err x) P e p = absurd (true≢false e)
-
 -- a list as it was written through a slice
 pub written : {X : Type 0} (n : ℕ) (new old : List X) → length new ≡ n → take n (new ++ drop (length new) old) ≡ new
 written n new old e = ap (λ m. take m (new ++ drop (length new) old)) (sym e) ∙ front new (drop (length new) old)
   where
     front : {X : Type 0} (xs ys : List X) → take (length xs) (xs ++ ys) ≡ xs
     front xs ys = grind (arith, common_steps)
-
-pub ok-follows : {T E : Type 0} (r : Result T E) (P Q : Type 0) → (P → Q) → OnOk r P → OnOk r Q
-ok-follows (Ok x) P Q f p = f p
-ok-follows (Err e) P Q f p = tt
-
-pub err-follows : {T E : Type 0} (r : Result T E) (P Q : Type 0) → (P → Q) → OnErr r P → OnErr r Q
-err-follows (Ok x) P Q f p = tt
-err-follows (Err e) P Q f p = f p
-
-pub either : {T E : Type 0} (r : Result T E) (P Q X : Type 0) → (P → X) → (Q → X) → OnOk r P → OnErr r Q → X
-either (Ok x) P Q X f g p q = f p
-either (Err e) P Q X f g p q = g q

@@ -4,14 +4,17 @@ use Rattle.std.specs.List.{AllByRecursion, dedup}
 use Rattle.std.specs.Cmp.Lexicographic.{pointwise, slice_cmp}
 use Rattle.std.proofs.lemmas.List.{map-append}
 use Rattle.std.proofs.lemmas.List.Elements.{filter-append}
-use Rattle.mvcc_keys.specs.Times.{Time, time_lt}
+use Rattle.mvcc_keys.specs.Times.{Time, time_lt, time_eq}
 use Rattle.range_tombstones.specs.declared.piece.Piece.{Piece}
-use Rattle.range_tombstones.specs.Dates.{Ascends, same_time, has_date, with_date}
-use Rattle.range_tombstones.specs.Ranges.{Bytes, RangeDeletion, range, bytes_le, bytes_lt, is_within, covers, with_range, dates_of, is_dated, ranges_after}
+use Rattle.range_tombstones.specs.Dates.{Ascends, has_date, with_date}
+use Rattle.list_laws.specs.Members.{Has}
+use Rattle.range_tombstones.specs.declared.deletion.RangeDeletion.{RangeDeletion}
+use Rattle.range_tombstones.specs.Ranges.{Bytes, by_date, range, bytes_le, bytes_lt, is_within, covers, with_range, dates_of, is_dated, ranges_after}
 use Rattle.range_tombstones.specs.Pieces.{piece, begins_before, piece_after, piece_at, dates_in, dates_at, dated, dated_after, is_start, same_dates, IsMadeOf, IsSplit, MayDate}
 use Rattle.range_tombstones.proofs.Lists as lists
-use Rattle.range_tombstones.proofs.Lists.{Has}
-use Rattle.range_tombstones.proofs.TimeLaws as times
+use Rattle.list_laws.proofs.Filters as filters
+use Rattle.list_laws.proofs.Members as members
+use Rattle.mvcc_keys.proofs.TimeOrder as times
 use Rattle.range_tombstones.proofs.DateLaws as dates
 use Rattle.range_tombstones.proofs.KeyLaws as keys
 use Rattle.range_tombstones.proofs.PieceLaws as pieces
@@ -107,15 +110,12 @@ dated-at lo hi t key ps a s u = ap dates_in (pieces.at-map (dated lo hi t) same 
         at true = refl
         at false = refl
 
-abbrev by_date : RangeDeletion → RangeDeletion → Bool
-by_date r s = time_lt r.at s.at
-
 abbrev pub covering : Bytes → List RangeDeletion → List Time
 covering key rs = dates_of (filter (covers key) rs)
 
 -- a test of dates commutes with what covers a key
 covering-filter : (p : Time → Bool) (key : Bytes) (rs : List RangeDeletion) → covering key (filter (λ r. p r.at) rs) ≡ filter p (covering key rs)
-covering-filter p key rs = ap (map (λ r. r.at)) (lists.filter-filter (covers key) (λ r. p r.at) rs) ∙ sym (lists.filter-map p (λ r. r.at) (filter (covers key) rs))
+covering-filter p key rs = ap (map (λ r. r.at)) (filters.filter-filter (covers key) (λ r. p r.at) rs) ∙ sym (filters.filter-map p (λ r. r.at) (filter (covers key) rs))
 
 pub map-ascends : (rs : List RangeDeletion) → Ascends by_date rs → Ascends time_lt (map (λ r. r.at) rs)
 map-ascends [] a = tt
@@ -139,11 +139,11 @@ has-at r (s ∷ rs) (inl e) = inl (ap (λ (x : RangeDeletion). x.at) e)
 has-at r (s ∷ rs) (inr i) = inr (has-at r rs i)
 
 pub new-covering : (t : Time) (key : Bytes) (rs : List RangeDeletion) → is_dated t rs ≡ false → has_date t (covering key rs) ≡ false
-new-covering t key rs f = dates.no-date t (covering key rs) (λ d h. by (same_time t d) d refl h)
+new-covering t key rs f = dates.no-date t (covering key rs) (λ d h. by (time_eq t d) d refl h)
   where
-    by : (b : Bool) (d : Time) → same_time t d ≡ b → Has d (covering key rs) → b ≡ false
+    by : (b : Bool) (d : Time) → time_eq t d ≡ b → Has d (covering key rs) → b ≡ false
     by false d e h = refl
-    by true d e h = let w = at-has d (filter (covers key) rs) h in sym (dates.has-date_has t (dates_of rs) (subst (λ s. Has s (dates_of rs)) (sym (times.same-is t d e ∙ w.2)) (has-at w.0 rs (lists.filter-has (covers key) w.0 rs w.1)))) ∙ f
+    by true d e h = let w = at-has d (filter (covers key) rs) h in sym (dates.has-date_has t (dates_of rs) (subst (λ s. Has s (dates_of rs)) (sym (times.eq-is t d e ∙ w.2)) (has-at w.0 rs (members.filter-has (covers key) w.0 rs w.1)))) ∙ f
 
 -- the dates that cover a key, where there is a range deletion more
 covering-with : (key : Bytes) (r : RangeDeletion) (rs : List RangeDeletion) → Ascends by_date rs → is_dated r.at rs ≡ false → covering key (with_range r rs) ≡ cond (covers key r) (with_date r.at (covering key rs)) (covering key rs)
@@ -171,9 +171,9 @@ pub made-dated : (lo hi : Bytes) (t : Time) (ps : List Piece) (rs : List RangeDe
 unfolding with_range
 made-dated lo hi t ps rs order new m s u = record {
   pieces = pieces.ascends-map (dated lo hi t) same ps m.pieces;
-  by_date = lists.ascends-put by_date (λ x y z. times.lt-trans x.at y.at z.at) (range lo hi t) (filter (λ x. time_lt x.at t) rs) (filter (λ x. time_lt t x.at) rs) (lists.ascends-filter by_date (λ x. time_lt x.at t) rs m.by_date) (lists.ascends-filter by_date (λ x. time_lt t x.at) rs m.by_date) (λ x h. lists.filter-passes (λ y. time_lt y.at t) x rs h) (λ x h. lists.filter-passes (λ y. time_lt t y.at) x rs h);
-  proper = lists.all-append (λ x. bytes_lt x.lo x.hi ≡ true) (filter (λ x. time_lt x.at t) rs) (range lo hi t ∷ filter (λ x. time_lt t x.at) rs) (lists.all-filter (λ x. bytes_lt x.lo x.hi ≡ true) (λ x. time_lt x.at t) rs m.proper) (order, lists.all-filter (λ x. bytes_lt x.lo x.hi ≡ true) (λ x. time_lt t x.at) rs m.proper);
-  dates = λ key. dated-at lo hi t key ps m.pieces s u ∙ (ap (λ (ds : List Time). cond (is_within lo hi key) (with_date t ds) ds) (m.dates key) ∙ sym (covering-with key (range lo hi t) rs m.by_date new));
+  ascends = lists.ascends-put by_date (λ x y z. times.lt-trans x.at y.at z.at) (range lo hi t) (filter (λ x. time_lt x.at t) rs) (filter (λ x. time_lt t x.at) rs) (lists.ascends-filter by_date (λ x. time_lt x.at t) rs m.ascends) (lists.ascends-filter by_date (λ x. time_lt t x.at) rs m.ascends) (λ x h. members.filter-passes (λ y. time_lt y.at t) x rs h) (λ x h. members.filter-passes (λ y. time_lt t y.at) x rs h);
+  proper = members.all-append (λ x. bytes_lt x.lo x.hi ≡ true) (filter (λ x. time_lt x.at t) rs) (range lo hi t ∷ filter (λ x. time_lt t x.at) rs) (members.all-filter (λ x. bytes_lt x.lo x.hi ≡ true) (λ x. time_lt x.at t) rs m.proper) (order, members.all-filter (λ x. bytes_lt x.lo x.hi ≡ true) (λ x. time_lt t x.at) rs m.proper);
+  dates = λ key. dated-at lo hi t key ps m.pieces s u ∙ (ap (λ (ds : List Time). cond (is_within lo hi key) (with_date t ds) ds) (m.dates key) ∙ sym (covering-with key (range lo hi t) rs m.ascends new));
 }
   where
     same : (p : Piece) → (dated lo hi t p).start ≡ p.start
@@ -186,22 +186,22 @@ made-dated lo hi t ps rs order new m s u = record {
 -- a new date may be put into each piece
 pub may-date : (t : Time) (ps : List Piece) (rs : List RangeDeletion) → IsMadeOf ps rs → is_dated t rs ≡ false → AllByRecursion (MayDate t) ps
 unfolding piece_at
-may-date t ps rs m new = lists.has-all (MayDate t) ps (λ p h. let is : covering p.start rs ≡ p.dates = sym (m.dates p.start) ∙ ap dates_in (own-piece None ps p m.pieces h) in (subst (λ (ds : List Time). Ascends time_lt ds) is (covering-ascends p.start rs m.by_date), sym (ap (has_date t) is) ∙ new-covering t p.start rs new))
+may-date t ps rs m new = members.AllByRecursion-has (MayDate t) ps (λ p h. let is : covering p.start rs ≡ p.dates = sym (m.dates p.start) ∙ ap dates_in (own-piece None ps p m.pieces h) in (subst (λ (ds : List Time). Ascends time_lt ds) is (covering-ascends p.start rs m.ascends), sym (ap (has_date t) is) ∙ new-covering t p.start rs new))
 
 -- what stays as it was under a split
 pub made-split : (key : Bytes) (ps qs : List Piece) (rs : List RangeDeletion) → IsMadeOf ps rs → IsSplit key ps qs → IsMadeOf qs rs
-made-split key ps qs rs m s = record { pieces = s.ascends; by_date = m.by_date; proper = m.proper; dates = λ k. s.dates k ∙ m.dates k }
+made-split key ps qs rs m s = record { pieces = s.ascends; ascends = m.ascends; proper = m.proper; dates = λ k. s.dates k ∙ m.dates k }
 
 -- ---- the range deletions up to a time forgotten
 
-same-dates : (xs ys : List Time) → pointwise same_time xs ys ≡ true → xs ≡ ys
+same-dates : (xs ys : List Time) → pointwise time_eq xs ys ≡ true → xs ≡ ys
 same-dates [] [] e = refl
 same-dates [] (y ∷ ys) e = absurd (true≢false (sym e))
 same-dates (x ∷ xs) [] e = absurd (true≢false (sym e))
-same-dates (x ∷ xs) (y ∷ ys) e = by (same_time x y) refl e (same-dates xs ys)
+same-dates (x ∷ xs) (y ∷ ys) e = by (time_eq x y) refl e (same-dates xs ys)
   where
-    by : (b : Bool) → same_time x y ≡ b → (b && pointwise same_time xs ys) ≡ true → (pointwise same_time xs ys ≡ true → xs ≡ ys) → x ∷ xs ≡ y ∷ ys
-    by true m e more = ap₂ (λ (z : Time) zs. z ∷ zs) (times.same-is x y m) (more e)
+    by : (b : Bool) → time_eq x y ≡ b → (b && pointwise time_eq xs ys) ≡ true → (pointwise time_eq xs ys ≡ true → xs ≡ ys) → x ∷ xs ≡ y ∷ ys
+    by true m e more = ap₂ (λ (z : Time) zs. z ∷ zs) (times.eq-is x y m) (more e)
     by false m e more = absurd (true≢false (sym e))
 
 dedup-after : (before : Option Piece) (key : Bytes) (p : Piece) (ps : List Piece) → Ascends begins_before (p ∷ ps) → dates_in (piece_after before key (dedup same_dates (p ∷ ps))) ≡ dates_in (piece_after before key (p ∷ ps))
@@ -239,22 +239,22 @@ dedup-ascends p (q ∷ ps) a = by (same_dates q p) (dedup-ascends p ps (a.0.1, a
   where
     by : (b : Bool) → Ascends begins_before (dedup same_dates (p ∷ ps)) → Ascends begins_before (dedup same_dates (q ∷ ps)) → Ascends begins_before (cond b (dedup same_dates (p ∷ ps)) (p ∷ dedup same_dates (q ∷ ps)))
     by true own rest = own
-    by false own rest = (lists.has-all (λ r. begins_before p r ≡ true) (dedup same_dates (q ∷ ps)) (λ r h. lists.all-has (λ s. begins_before p s ≡ true) (q ∷ ps) a.0 r (dedup-has r q ps h)), rest)
+    by false own rest = (members.AllByRecursion-has (λ r. begins_before p r ≡ true) (dedup same_dates (q ∷ ps)) (λ r h. lists.all-has (λ s. begins_before p s ≡ true) (q ∷ ps) a.0 r (dedup-has r q ps h)), rest)
 
 pub made-collected : (g : Time) (ps : List Piece) (rs : List RangeDeletion) → IsMadeOf ps rs → IsMadeOf (dedup same_dates (map (dated_after g) ps)) (ranges_after g rs)
 made-collected g ps rs m = record {
-  pieces = ascends (map (dated_after g) ps) left;
-  by_date = lists.ascends-filter by_date (λ r. time_lt g r.at) rs m.by_date;
-  proper = lists.all-filter (λ r. bytes_lt r.lo r.hi ≡ true) (λ r. time_lt g r.at) rs m.proper;
+  pieces = deduped (map (dated_after g) ps) left;
+  ascends = lists.ascends-filter by_date (λ r. time_lt g r.at) rs m.ascends;
+  proper = members.all-filter (λ r. bytes_lt r.lo r.hi ≡ true) (λ r. time_lt g r.at) rs m.proper;
   dates = λ key. dedup-at key (map (dated_after g) ps) left ∙ (ap dates_in (pieces.at-map (dated_after g) (λ p. refl) key ps) ∙ (kept (piece_at key ps) ∙ (ap (filter (λ d. time_lt g d)) (m.dates key) ∙ sym (covering-filter (λ d. time_lt g d) key rs))));
 }
   where
     left : Ascends begins_before (map (dated_after g) ps)
     left = pieces.ascends-map (dated_after g) (λ p. refl) ps m.pieces
 
-    ascends : (qs : List Piece) → Ascends begins_before qs → Ascends begins_before (dedup same_dates qs)
-    ascends [] a = tt
-    ascends (q ∷ qs) a = dedup-ascends q qs a
+    deduped : (qs : List Piece) → Ascends begins_before qs → Ascends begins_before (dedup same_dates qs)
+    deduped [] a = tt
+    deduped (q ∷ qs) a = dedup-ascends q qs a
 
     kept : (o : Option Piece) → dates_in (option_map (dated_after g) o) ≡ filter (λ d. time_lt g d) (dates_in o)
     kept None = refl

@@ -4,12 +4,14 @@ use Rattle.std.specs.Cmp.Lexicographic.{slice_cmp}
 use Rattle.mvcc_keys.specs.Times.{Time}
 use Rattle.range_tombstones.specs.declared.piece.Piece.{Piece}
 use Rattle.range_tombstones.specs.Dates.{Ascends, last_after, last_of}
+use Rattle.list_laws.specs.Members.{Has}
 use Rattle.range_tombstones.specs.Ranges.{Bytes, bytes_le, bytes_lt}
 use Rattle.range_tombstones.specs.Pieces.{piece, begins_before, piece_after, piece_at, dates_in, dates_at, is_start, IsSplit}
 use Rattle.range_tombstones.proofs.Lists as lists
-use Rattle.range_tombstones.proofs.Lists.{Has}
+use Rattle.list_laws.proofs.Members as members
 use Rattle.range_tombstones.proofs.KeyLaws as keys
 use Rattle.range_tombstones.proofs.PieceLaws.{begun, at-begun}
+use Rattle.list_laws.proofs.Bools.{or-false, or-true}
 
 abbrev pub begins : Bytes → Option Piece → Bool
 begins key None = false
@@ -23,15 +25,11 @@ last-begins key (p ∷ ps) a = by (bytes_le p.start key) refl (last-begins key p
     is q = is_eq (slice_cmp nat_cmp q.start key)
 
     at : (qs : List Piece) → begun key ps ≡ qs → begins key (last_of (begun key ps)) ≡ is_start key ps → begins key (Some (last_after p qs)) ≡ (is p || is_start key ps)
-    at [] e more = sym (off (is p)) ∙ ap (λ (b : Bool). is p || b) (ap (λ qs. begins key (last_of qs)) (sym e) ∙ more)
-      where
-        off : (b : Bool) → (b || false) ≡ b
-        off true = refl
-        off false = refl
+    at [] e more = sym (or-false (is p)) ∙ ap (λ (b : Bool). is p || b) (ap (λ qs. begins key (last_of qs)) (sym e) ∙ more)
     at (q ∷ qs) e more =
         let i : Has q (begun key ps) = subst (λ rs. Has q rs) (sym e) (inl refl) in
-        let lt : bytes_lt p.start q.start ≡ true = lists.all-has (λ r. begins_before p r ≡ true) ps a.0 q (lists.filter-has (λ r. bytes_le r.start key) q ps i) in
-        ap (λ rs. begins key (last_of rs)) (sym e) ∙ (more ∙ ap (λ (b : Bool). b || is_start key ps) (sym (keys.lt-other p.start key (keys.lt-upto p.start q.start key lt (lists.filter-passes (λ r. bytes_le r.start key) q ps i)))))
+        let lt : bytes_lt p.start q.start ≡ true = lists.all-has (λ r. begins_before p r ≡ true) ps a.0 q (members.filter-has (λ r. bytes_le r.start key) q ps i) in
+        ap (λ rs. begins key (last_of rs)) (sym e) ∙ (more ∙ ap (λ (b : Bool). b || is_start key ps) (sym (keys.lt-other p.start key (keys.lt-upto p.start q.start key lt (members.filter-passes (λ r. bytes_le r.start key) q ps i)))))
 
     by : (b : Bool) → bytes_le p.start key ≡ b → begins key (last_of (begun key ps)) ≡ is_start key ps → begins key (last_of (cond b (p ∷ begun key ps) (begun key ps))) ≡ (is p || is_start key ps)
     by true e more = at (begun key ps) refl more
@@ -95,8 +93,8 @@ module _ (key : Bytes) (xs ys : List Piece) (ds : List Time) (low : (p : Piece) 
 -- a piece put at its place
 pub split-put : (key : Bytes) (ps qs xs : List Piece) (i : ℕ) (p : Piece) → Ascends begins_before ps → is_start key ps ≡ false → xs ≡ ps → take i xs ≡ begun key xs → drop i xs ≡ filter (λ q. bytes_lt key q.start) xs → p.start ≡ key → p.dates ≡ dates_at key ps → qs ≡ take i ps ++ p ∷ drop i ps → IsSplit key ps qs
 split-put key ps qs xs i p a none same front back start dates is = subst (λ rs. IsSplit key ps rs) (sym put) (record {
-  ascends = lists.ascends-put begins_before (λ q r s. keys.lt-trans q.start r.start s.start) (piece key p.dates) lows highs (lists.ascends-filter begins_before (λ q. bytes_le q.start key) ps a) (lists.ascends-filter begins_before (λ q. bytes_lt key q.start) ps a) (λ q h. keys.le-other_lt q.start key (low q h) (no-start key ps none q (lists.filter-has (λ r. bytes_le r.start key) q ps h))) high;
-  begun = start-append key lows (piece key p.dates ∷ highs) ∙ (ap (λ (b : Bool). is_start key lows || (b || is_start key highs)) (keys.same-itself key) ∙ on (is_start key lows));
+  ascends = lists.ascends-put begins_before (λ q r s. keys.lt-trans q.start r.start s.start) (piece key p.dates) lows highs (lists.ascends-filter begins_before (λ q. bytes_le q.start key) ps a) (lists.ascends-filter begins_before (λ q. bytes_lt key q.start) ps a) (λ q h. keys.le-other_lt q.start key (low q h) (no-start key ps none q (members.filter-has (λ r. bytes_le r.start key) q ps h))) high;
+  begun = start-append key lows (piece key p.dates ∷ highs) ∙ (ap (λ (b : Bool). is_start key lows || (b || is_start key highs)) (keys.same-itself key) ∙ or-true (is_start key lows));
   others = λ k e. start-append k lows (piece key p.dates ∷ highs) ∙ more (is_start k lows) (is_eq (slice_cmp nat_cmp key k)) (is_start k highs) (sym (start-append k lows highs) ∙ (ap (is_start k) whole ∙ e));
   dates = λ k. put-dates key lows highs p.dates low high (dates ∙ ap (dates_at key) (sym whole)) k ∙ ap (dates_at k) whole;
 })
@@ -120,14 +118,10 @@ split-put key ps qs xs i p a none same front back start dates is = subst (λ rs.
     put = is ∙ (ap₂ (λ (ys zs : List Piece). ys ++ p ∷ zs) front-is back-is ∙ ap (λ (s : Bytes). lows ++ piece s p.dates ∷ highs) start)
 
     low : (q : Piece) → Has q lows → bytes_le q.start key ≡ true
-    low q h = lists.filter-passes (λ r. bytes_le r.start key) q ps h
+    low q h = members.filter-passes (λ r. bytes_le r.start key) q ps h
 
     high : (q : Piece) → Has q highs → bytes_lt key q.start ≡ true
-    high q h = lists.filter-passes (λ r. bytes_lt key r.start) q ps h
-
-    on : (b : Bool) → (b || true) ≡ true
-    on true = refl
-    on false = refl
+    high q h = members.filter-passes (λ r. bytes_lt key r.start) q ps h
 
     more : (x y z : Bool) → (x || z) ≡ true → (x || (y || z)) ≡ true
     more true y z e = refl

@@ -1,20 +1,17 @@
 -- Dates in ascending order.
-use Rattle.std.specs.Prelude.{◌≡◌, Bool, true, false, ◌&&◌, ◌||◌, ◌==◌, cond, List, [], ◌∷◌, ◌++◌, Option, Some, None, filter}
+use Rattle.std.specs.Prelude.{◌≡◌, Bool, true, false, ◌||◌, cond, List, [], ◌∷◌, ◌++◌, Option, Some, None, filter}
 use Rattle.std.specs.List.{AllByRecursion}
-use Rattle.mvcc_keys.specs.Times.{Time, time_lt, time_le}
+use Rattle.mvcc_keys.specs.Times.{Time, time_eq, time_lt, time_le}
 
 -- each comes before all after it
 abbrev pub Ascends : {X : Type 0} → (X → X → Bool) → List X → Type 0
 Ascends lt [] = Unit {0}
 Ascends lt (x ∷ xs) = AllByRecursion (λ y. lt x y ≡ true) xs × Ascends lt xs
 
-abbrev pub same_time : Time → Time → Bool
-same_time s t = s.wall == t.wall && s.logical == t.logical
-
 -- a date is in the list
 abbrev pub has_date : Time → List Time → Bool
 has_date t [] = false
-has_date t (d ∷ ds) = same_time t d || has_date t ds
+has_date t (d ∷ ds) = time_eq t d || has_date t ds
 
 -- a date after the earlier ones and before the later ones
 unfoldable pub with_date : Time → List Time → List Time
@@ -22,7 +19,7 @@ with_date t ds = filter (λ d. time_lt d t) ds ++ t ∷ filter (λ d. time_lt t 
 
 -- all dates but one
 abbrev pub without_date : Time → List Time → List Time
-without_date t ds = filter (λ d. cond (same_time d t) false true) ds
+without_date t ds = filter (λ d. cond (time_eq d t) false true) ds
 
 abbrev pub last_after : {X : Type 0} → X → List X → X
 last_after x [] = x

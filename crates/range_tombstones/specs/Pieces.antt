@@ -1,12 +1,13 @@
 -- Adjoining pieces of the key space, each up to the next, with the dates of the range deletions that cover it.
-use Rattle.std.specs.Prelude.{◌≡◌, ℕ, Bool, true, false, not, ◌&&◌, ◌||◌, cond, List, [], ◌∷◌, ◌++◌, take, drop, map, filter, Option, Some, None}
+use Rattle.std.specs.Prelude.{◌≡◌, ℕ, Bool, true, false, ◌||◌, cond, List, [], ◌∷◌, ◌++◌, take, drop, map, filter, Option, Some, None}
 use Rattle.std.specs.List.{AllByRecursion}
 use Rattle.std.specs.Ordering.{is_eq, nat_cmp}
 use Rattle.std.specs.Cmp.Lexicographic.{pointwise, slice_cmp}
-use Rattle.mvcc_keys.specs.Times.{Time, time_lt}
+use Rattle.mvcc_keys.specs.Times.{Time, time_lt, time_eq}
 use Rattle.range_tombstones.specs.declared.piece.Piece.{Piece}
-use Rattle.range_tombstones.specs.Dates.{Ascends, same_time, has_date, with_date, without_date, with_dates}
-use Rattle.range_tombstones.specs.Ranges.{Bytes, RangeDeletion, dates_of, range, bytes_le, bytes_lt, is_within, covers}
+use Rattle.range_tombstones.specs.Dates.{Ascends, has_date, with_date, without_date}
+use Rattle.range_tombstones.specs.declared.deletion.RangeDeletion.{RangeDeletion}
+use Rattle.range_tombstones.specs.Ranges.{Bytes, by_date, dates_of, bytes_le, bytes_lt, is_within, covers}
 
 abbrev pub piece : Bytes → List Time → Piece
 piece start dates = record { start = start; dates = dates }
@@ -34,36 +35,10 @@ abbrev pub is_start : Bytes → List Piece → Bool
 is_start key [] = false
 is_start key (p ∷ ps) = is_eq (slice_cmp nat_cmp p.start key) || is_start key ps
 
--- a piece has the date
-abbrev pub any_date : Time → List Piece → Bool
-any_date t [] = false
-any_date t (p ∷ ps) = has_date t p.dates || any_date t ps
-
--- ---- the range deletion of a date: from the first piece that has the date up to the first after it that hasn't
-
-unfoldable pub start_of : Time → List Piece → Bytes
-start_of t [] = []
-start_of t (p ∷ ps) = cond (has_date t p.dates) p.start (start_of t ps)
-
-unfoldable pub end_after : Bool → Time → List Piece → Bytes
-end_after begun t [] = []
-end_after begun t (p ∷ ps) = cond (begun && not (has_date t p.dates)) p.start (end_after (has_date t p.dates) t ps)
-
-unfoldable pub dates_found : List Time → List Piece → List Time
-dates_found found [] = found
-dates_found found (p ∷ ps) = dates_found (with_dates found p.dates) ps
-
-abbrev pub joined : List Piece → Time → RangeDeletion
-joined ps t = range (start_of t ps) (end_after false t ps) t
-
--- the range deletions that the pieces were made of, by date
-unfoldable pub ranges_of : List Piece → List RangeDeletion
-ranges_of ps = map (joined ps) (dates_found [] ps)
-
 -- pieces are made of range deletions: at each key stand the dates of those that cover it
 pub record IsMadeOf (ps : List Piece) (rs : List RangeDeletion) : Type 0 where
   pub pieces : Ascends begins_before ps
-  pub by_date : Ascends (λ r s. time_lt r.at s.at) rs
+  pub ascends : Ascends by_date rs
   pub proper : AllByRecursion (λ r. bytes_lt r.lo r.hi ≡ true) rs
   pub dates : (key : Bytes) → dates_at key ps ≡ dates_of (filter (covers key) rs)
 
@@ -95,4 +70,4 @@ abbrev pub MayDate : Time → Piece → Type 0
 MayDate t p = Ascends time_lt p.dates × (has_date t p.dates ≡ false)
 
 abbrev pub same_dates : Piece → Piece → Bool
-same_dates p q = pointwise same_time p.dates q.dates
+same_dates p q = pointwise time_eq p.dates q.dates

@@ -5,6 +5,7 @@ use Rattle.std.specs.Cmp.Lexicographic.{slice_cmp}
 use Rattle.mvcc_keys.specs.Times.{Time, time_lt, time_le}
 use Rattle.mvcc_keys.specs.declared.entries.Entry.{Entry}
 use Rattle.range_tombstones.specs.declared.upto.Upto.{Upto}
+use Rattle.range_tombstones.specs.declared.deletion.RangeDeletion.{RangeDeletion}
 use Rattle.range_tombstones.specs.Dates.{has_date}
 use Rattle.range_tombstones.specs.Intervals.{is_between}
 
@@ -17,12 +18,11 @@ bytes_le a b = is_le (slice_cmp nat_cmp a b)
 abbrev pub bytes_lt : Bytes → Bytes → Bool
 bytes_lt a b = is_lt (slice_cmp nat_cmp a b)
 
--- a deletion of the keys from lo up to, not including, hi
-pub record RangeDeletion : Type 0 where
-  pub lo : Bytes
-  pub hi : Bytes
-  pub at : Time
+-- by date
+abbrev pub by_date : RangeDeletion → RangeDeletion → Bool
+by_date r s = time_lt r.at s.at
 
+-- a deletion of the keys from lo up to, not including, hi
 abbrev pub range : Bytes → Bytes → Time → RangeDeletion
 range lo hi at = record { lo = lo; hi = hi; at = at }
 

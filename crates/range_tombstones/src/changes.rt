@@ -1,10 +1,11 @@
 //! Changes of pieces.
-ghost use Rattle.std.specs.Prelude.{◌≡◌, true, false, map, IfOk, OnOk, OnErr};
+ghost use Rattle.std.specs.Prelude.{◌≡◌, List, true, false, map, IfOk, OnOk, OnErr};
 ghost use Rattle.std.specs.List.{AllByRecursion, dedup};
 ghost use Rattle.mvcc_keys.specs.Times.{Time};
 ghost use Rattle.range_tombstones.specs.Dates.{Ascends};
-ghost use Rattle.range_tombstones.specs.Ranges.{bytes_lt, is_dated, range, ranges_after, with_range};
-ghost use Rattle.range_tombstones.specs.Pieces.{begins_before, dates_at, dated, undated, dated_after, is_start, same_dates, IsMadeOf, IsSplit, MayDate, PartlyDated, ranges_of};
+ghost use Rattle.range_tombstones.specs.declared.deletion.RangeDeletion.{RangeDeletion};
+ghost use Rattle.range_tombstones.specs.Ranges.{bytes_lt, is_dated, range, with_range};
+ghost use Rattle.range_tombstones.specs.Pieces.{begins_before, dates_at, dated, undated, dated_after, is_start, same_dates, IsMadeOf, IsSplit, MayDate, PartlyDated};
 
 use crate::dates::Dates;
 use crate::piece::Piece;
@@ -109,13 +110,12 @@ fn keep_after(pieces: &mut [Piece], g: Hlc)
     }
 }
 
-/// Adds a range deletion. What is split stays split where memory is refused.
+/// Adds a range deletion to the pieces. What is split stays split where memory is refused.
 pub(crate) fn add_range(pieces: &mut Vec<Piece>, lo: &[u8], hi: &[u8], t: Hlc) -> Result<(), Memory>
-    requires made { IsMadeOf pieces.old.items (ranges_of pieces.old.items) }
+    requires made { (rs : List RangeDeletion) × IsMadeOf pieces.old.items rs × (is_dated t rs ≡ false) }
     requires order { bytes_lt lo.now hi.now ≡ true }
-    requires new_date { is_dated t (ranges_of pieces.old.items) ≡ false }
-    ensures ok { OnOk result (IsMadeOf pieces.new.items (with_range (range lo.now hi.now t) (ranges_of pieces.old.items))) }
-    ensures err { OnErr result (IsMadeOf pieces.new.items (ranges_of pieces.old.items)) }
+    ensures ok { OnOk result ((rs : List RangeDeletion) → IsMadeOf pieces.old.items rs → is_dated t rs ≡ false → IsMadeOf pieces.new.items (with_range (range lo.now hi.now t) rs)) }
+    ensures err { OnErr result ((rs : List RangeDeletion) → IsMadeOf pieces.old.items rs → IsMadeOf pieces.new.items rs) }
 {
     split(pieces, lo)?;
     split(pieces, hi)?;

@@ -1,8 +1,8 @@
 //! The dates of a piece.
 ghost use Rattle.std.specs.Prelude.{◌≡◌, ◌≤◌, [], IfOk, OnOk, OnErr, filter, length, take, drop};
 ghost use Rattle.std.specs.Cmp.Lexicographic.{pointwise};
-ghost use Rattle.mvcc_keys.specs.Times.{time_lt, time_le};
-ghost use Rattle.range_tombstones.specs.Dates.{Ascends, has_date, same_time, with_date, without_date, last_upto};
+ghost use Rattle.mvcc_keys.specs.Times.{time_lt, time_le, time_eq};
+ghost use Rattle.range_tombstones.specs.Dates.{Ascends, has_date, with_date, without_date, last_upto};
 
 use mvcc_keys::{Hlc, Memory};
 use std::alloc::Global;
@@ -64,7 +64,7 @@ impl Dates {
     }
 
     pub fn is_same(&self, other: &Dates) -> bool
-        ensures { result ≡ pointwise same_time self.now other.now }
+        ensures { result ≡ pointwise time_eq self.now other.now }
     {
         self.list.as_slice() == other.list.as_slice()
     }

@@ -3,6 +3,7 @@
 
 mod changes;
 mod dates;
+mod deletion;
 mod fragments;
 mod piece;
 mod pieces;
@@ -10,6 +11,3 @@ mod upto;
 
 pub use fragments::Fragments;
 pub use upto::Upto;
-
-#[cfg(test)]
-mod tests;

@@ -1,14 +1,15 @@
 -- The pieces of entries that ascend.
-use Rattle.std.proofs.Common.{◌≡◌, ◌∙◌, ℕ, zero, suc, ◌-◌, ◌<◌, ◌≤◌, Bool, true, sym, refl, ap, ap₂, subst, List, [], ◌∷◌, ◌++◌, length, take, drop, filter, slice_get, append_assoc, inl, inr, Option, Some, None, Less, arith}
+use Rattle.std.proofs.Common.{◌≡◌, ◌∙◌, ℕ, zero, suc, ◌-◌, ◌<◌, ◌≤◌, sym, refl, ap, ap₂, subst, List, [], ◌∷◌, ◌++◌, length, take, drop, slice_get, append_assoc, inl, Option, Some, None, Less, arith}
 use Rattle.std.specs.List.Sorted.{IsStrictlySortedBy}
 use Rattle.std.proofs.lemmas.List.{take-append-drop, length-drop}
 use Rattle.mvcc_keys.specs.declared.entries.Entry.{Entry}
-use Rattle.fact_model.specs.Facts.{Has}
-use Rattle.fact_model.proofs.Members as members
+use Rattle.list_laws.proofs.Members as members
 use Rattle.span_export.specs.declared.cursor.Place.{Place}
 use Rattle.span_export.specs.Plans.{plan_entries}
 use Rattle.span_export.specs.Pieces.{after_place, ArePieces, is_after, is_left, joined, PiecesAreWhole, cursor_after, place_of}
-use Rattle.span_export.proofs.EntryOrder.{after-later, not_after-earlier, not_after-itself, order, plan-sorted}
+use Rattle.span_export.specs.Entries.{order}
+use Rattle.span_export.proofs.EntryOrder.{after-later, not_after-earlier, not_after-itself, plan-sorted}
+use Rattle.list_laws.proofs.Filters.{filter-all}
 
 -- ---- the cursor
 
@@ -19,10 +20,6 @@ place-at cursor (d ∷ []) e h = let same : d ≡ e = cc in ap (λ (x : Entry). 
 place-at cursor (d ∷ c ∷ es) e h = place-at (Some (place_of d)) (c ∷ es) e (let one : length (c ∷ es) - 1 ≡ length es = omega arith in let two : length (d ∷ c ∷ es) - 1 ≡ suc (length es) = omega arith in ap (slice_get (c ∷ es)) one ∙ (sym (ap (slice_get (d ∷ c ∷ es)) two) ∙ h))
 
 -- ---- what is after a place
-
-pub filter-all : {X : Type 0} (p : X → Bool) (xs : List X) → ((x : X) → Has x xs → p x ≡ true) → filter p xs ≡ xs
-filter-all p [] all = refl
-filter-all {X} p (x ∷ xs) all = rw (all x (inl refl)) (ap (λ (ys : List X). x ∷ ys) (filter-all p xs (λ y h. all y (inr h))))
 
 filter-past : (done : List Entry) (e : Entry) (more : List Entry) → IsStrictlySortedBy order (done ++ e ∷ more) → after_place (Some (place_of e)) (done ++ e ∷ more) ≡ more
 unfolding IsStrictlySortedBy

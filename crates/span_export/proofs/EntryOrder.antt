@@ -7,34 +7,23 @@ use Rattle.std.proofs.lemmas.List.{map-append}
 use Rattle.std.proofs.lemmas.List.Kept.{IsStrictlySortedBy-filter}
 use Rattle.mvcc_keys.specs.Times.{Time, time_lt}
 use Rattle.mvcc_keys.specs.Codes.{time_cmp}
+use Rattle.list_laws.specs.Members.{Has}
 use Rattle.mvcc_keys.specs.declared.entries.Entry.{Entry}
 use Rattle.range_tombstones.specs.Intervals.{is_between}
-use Rattle.fact_model.specs.Facts.{Has}
 use Rattle.fact_model.specs.Listed.{date_cmp, is_point, point_cmp, points}
 use Rattle.fact_model.specs.Scans.{image}
-use Rattle.fact_model.proofs.Members as members
+use Rattle.list_laws.proofs.Members as members
 use Rattle.fact_model.proofs.Orders as orders
-use Rattle.version_store.specs.Tables.{ByteFact, Tables, bytes_cmp, entry_of, entries_of}
+use Rattle.version_store.specs.Tables.{ByteFact, Tables, bytes_cmp, entry_of, entries_of, is_newest, newest_points}
 use Rattle.version_store.specs.Lists.{fact_of}
 use Rattle.version_store.proofs.Bytes.{fact-entry}
+use Rattle.list_laws.proofs.Orders.{sorted-append}
 use Rattle.span_export.specs.declared.plan.Plan.{Plan}
 use Rattle.span_export.specs.declared.plan.Plan.TheVariants.{Changes, Whole}
-use Rattle.span_export.specs.Plans.{is_newest, newest_points, plan_entries, plan_points, plan_ranges, whole_points}
+use Rattle.span_export.specs.Plans.{plan_entries, plan_points, plan_ranges, whole_points}
+use Rattle.span_export.specs.Entries.{by_kind, fact_order, order}
 use Rattle.span_export.specs.Pieces.{is_after, place_of}
-use Rattle.span_export.proofs.FactOrder.{dates-total, equal-lt, greater-lt, image-has, image-sorted, less-lt, point-has, points-sorted, points-total, range-has, ranges-sorted, sorted-append, sorted-map}
-
--- puts and deletions before range deletions
-abbrev by_kind : Bool → Bool → Ordering → Ordering → Ordering
-by_kind true true points dates = points
-by_kind true false points dates = Less
-by_kind false true points dates = Greater
-by_kind false false points dates = dates
-
-abbrev fact_order : ByteFact → ByteFact → Ordering
-fact_order f g = by_kind (is_point f) (is_point g) (point_cmp bytes_cmp f g) (date_cmp f g)
-
-abbrev pub order : Entry → Entry → Ordering
-order d e = fact_order (fact_of d) (fact_of e)
+use Rattle.version_store.proofs.FactOrder.{dates-total, equal-lt, greater-lt, image-has, image-sorted, less-lt, point-has, points-sorted, points-total, range-has, ranges-sorted, sorted-map}
 
 -- ---- places
 
@@ -106,7 +95,7 @@ plan_points-sorted fs (Changes after upto false) = newest-sorted (points bytes_c
 plan_points-sorted fs (Whole floor upto true) = whole-sorted floor (is_between floor upto) fs
 plan_points-sorted fs (Whole floor upto false) = image-sorted floor fs
 
-plan_points-has : (fs : List ByteFact) (plan : Plan) (f : ByteFact) → Has f (plan_points fs plan) → is_point f ≡ true
+pub plan_points-has : (fs : List ByteFact) (plan : Plan) (f : ByteFact) → Has f (plan_points fs plan) → is_point f ≡ true
 plan_points-has fs (Changes after upto true) f h = (point-has (is_between after upto) fs f h).0
 plan_points-has fs (Changes after upto false) f h = (point-has (is_between after upto) fs f (newest-has (points bytes_cmp (is_between after upto) fs) f h)).0
 plan_points-has fs (Whole floor upto true) f h = whole-has floor (is_between floor upto) fs f h

@@ -1,7 +1,6 @@
-pub mod FactOrder
 pub mod Merges
-pub mod Firsts
 pub mod EntryOrder
 pub mod Cuts
-pub mod StoreCalls
+pub mod Left
 pub mod Added
+pub mod Exact

@@ -1,28 +1,34 @@
 -- Two lists that ascend, merged, are both put in order.
-use Rattle.std.proofs.Common.{◌≡◌, ◌∙◌, Bool, true, false, cond, sym, refl, ap, ap₂, subst, List, [], ◌∷◌, ◌++◌, take, drop, length, ◌<◌, append_assoc, append-nil, arith, inl, inr, ◌⊎◌, true≢false, Ordering, Less, Equal, Greater, is_lt}
+use Rattle.std.proofs.Common.{◌≡◌, ◌∙◌, ℕ, zero, suc, ◌≤◌, Bool, true, false, cond, sym, refl, ap, ap₂, subst, List, [], ◌∷◌, ◌++◌, take, drop, filter, length, ◌<◌, Option, append_assoc, append-nil, arith, inl, inr, ◌⊎◌, true≢false, Ordering, Less, Equal, Greater, is_lt}
 use Rattle.std.specs.Cmp.{IsTotalOrder}
 use Rattle.std.specs.List.Sorted.{IsStrictlySortedBy}
-use Rattle.std.specs.Ordering.{ordering_reverse, ordering_then}
+use Rattle.std.specs.Ordering.{ordering_reverse}
 use Rattle.std.proofs.lemmas.Cmp.{on_total}
-use Rattle.std.proofs.lemmas.List.{map-append}
+use Rattle.std.proofs.lemmas.List.{map-append, take-take}
+use Rattle.std.proofs.lemmas.List.Kept.{IsStrictlySortedBy-filter}
 use Rattle.mvcc_keys.specs.Times.{Time, time_lt}
 use Rattle.mvcc_keys.specs.Codes.{time_cmp}
+use Rattle.list_laws.specs.Members.{AllIn, Has}
 use Rattle.mvcc_keys.specs.declared.entries.Entry.{Entry}
 use Rattle.range_tombstones.specs.declared.upto.Upto.{Upto}
 use Rattle.range_tombstones.specs.Intervals.{is_between, within}
-use Rattle.fact_model.specs.Facts.{AllIn, Has, date}
+use Rattle.fact_model.specs.Facts.{date}
 use Rattle.fact_model.specs.Listed.{key_of, point_cmp, points}
-use Rattle.fact_model.specs.Ordered.{by_order, insert_by, ordered}
+use Rattle.fact_model.specs.Ordered.{ordered}
 use Rattle.fact_model.specs.Scans.{image}
-use Rattle.fact_model.proofs.TimeLaws as times
-use Rattle.fact_model.proofs.Members as members
+use Rattle.mvcc_keys.proofs.TimeOrder as times
+use Rattle.list_laws.proofs.Members as members
 use Rattle.fact_model.proofs.Orders as orders
-use Rattle.version_store.specs.Tables.{ByteFact, bytes_cmp, entry_of, entries_of}
+use Rattle.version_store.specs.Tables.{ByteFact, Bytes, bytes_cmp, entry_of, entries_of, is_past}
 use Rattle.version_store.specs.Lists.{fact_of}
 use Rattle.version_store.proofs.Bytes.{fact-entry}
+use Rattle.version_store.proofs.Held.{cut}
+use Rattle.list_laws.proofs.Bools.{and-parts}
+use Rattle.list_laws.proofs.Orders.{sorted-append}
 use Rattle.span_export.specs.Lists.{comes_before, first_passes, front, merged, rest}
 use Rattle.span_export.specs.Plans.{whole_points}
-use Rattle.span_export.proofs.FactOrder.{both, equal-lt, image-has, image-sorted, point-has, points-sorted, points-total, sorted-append, sorted-map}
+use Rattle.version_store.proofs.FactOrder.{equal-lt, image-has, image-sorted, point-has, points-sorted, points-total, sorted-map}
+use Rattle.list_laws.proofs.Orderings.{lt-Less, then-Equal}
 
 -- ---- fronts
 
@@ -99,11 +105,6 @@ has-merged_second : (z : Entry) (xs ys : List Entry) → Has z ys → Has z (mer
 has-merged_second z [] ys h = h
 has-merged_second z (x ∷ xs) ys h = elim (members.has-append_cases z (front (comes_before x) ys) (rest (comes_before x) ys) (subst (Has z) (sym (front-rest (comes_before x) ys)) h)) [ inl i ↦ members.has-append_left z (front (comes_before x) ys) (x ∷ merged xs (rest (comes_before x) ys)) i | inr j ↦ members.has-append_right z (front (comes_before x) ys) (x ∷ merged xs (rest (comes_before x) ys)) (inr (has-merged_second z xs (rest (comes_before x) ys) j)) ]
 
-less : (o : Ordering) → is_lt o ≡ true → o ≡ Less
-less Less e = refl
-less Equal e = absurd (true≢false (sym e))
-less Greater e = absurd (true≢false (sym e))
-
 -- no element of one list ties with one of the other
 abbrev AreApart : List Entry → List Entry → Type 0
 AreApart xs ys = (x y : Entry) → Has x xs → Has y ys → entry_cmp y x ≡ Equal → ⊥
@@ -123,49 +124,39 @@ merged-sorted (x ∷ xs) ys up on apart = sorted-append entry_cmp (front (comes_
     above-x z h = elim (merged-has z xs left h) [ inl i ↦ members.has-AllByRecursion (λ w. entry_cmp x w ≡ Less) z xs up.0 i | inr j ↦ rest-above entry_cmp entries-total x ys on (λ y k. apart x y (inl refl) k) z j ]
 
     below-x : (a : Entry) → Has a (front (comes_before x) ys) → (b : Entry) → Has b (x ∷ merged xs left) → entry_cmp a b ≡ Less
-    below-x a i b (inl e) = subst (λ (w : Entry). entry_cmp a w ≡ Less) (sym e) (less (entry_cmp a x) (front-passes (comes_before x) a ys i))
-    below-x a i b (inr j) = entries-total.trans a x b (less (entry_cmp a x) (front-passes (comes_before x) a ys i)) (above-x b j)
+    below-x a i b (inl e) = subst (λ (w : Entry). entry_cmp a w ≡ Less) (sym e) (lt-Less (entry_cmp a x) (front-passes (comes_before x) a ys i))
+    below-x a i b (inr j) = entries-total.trans a x b (lt-Less (entry_cmp a x) (front-passes (comes_before x) a ys i)) (above-x b j)
 
--- ---- what is put in order is there, where no two elements tie
-
-has-inserted : {X : Type 0} (cmp : X → X → Ordering) (x : X) (ys : List X) → ((y : X) → Has y ys → cmp x y ≡ Equal → x ≡ y) → Has x (insert_by cmp x ys)
-unfolding insert_by
-has-inserted cmp x [] same = inl refl
-has-inserted cmp x (y ∷ ys) same = by (cmp x y) refl (has-inserted cmp x ys (λ z h. same z (inr h)))
+-- what passes of a merge is the merge of what passes
+filter-merged : (p : Entry → Bool) (xs ys : List Entry) → IsStrictlySortedBy entry_cmp xs → IsStrictlySortedBy entry_cmp ys → AreApart xs ys → filter p (merged xs ys) ≡ merged (filter p xs) (filter p ys)
+filter-merged p xs ys up on apart = orders.ascending-same entry_cmp entries-total (filter p (merged xs ys)) (merged (filter p xs) (filter p ys)) (IsStrictlySortedBy-filter entry_cmp p (merged xs ys) (merged-sorted xs ys up on apart)) (merged-sorted (filter p xs) (filter p ys) (IsStrictlySortedBy-filter entry_cmp p xs up) (IsStrictlySortedBy-filter entry_cmp p ys on) (λ x y h i. apart x y (members.filter-has p x xs h) (members.filter-has p y ys i))) there here
   where
-    by : (o : Ordering) → cmp x y ≡ o → Has x (insert_by cmp x ys) → Has x (by_order o (x ∷ y ∷ ys) (y ∷ ys) (y ∷ insert_by cmp x ys))
-    by Ordering.Less e more = inl refl
-    by Ordering.Equal e more = inl (same y (inl refl) e)
-    by Ordering.Greater e more = inr more
+    there : AllIn (filter p (merged xs ys)) (merged (filter p xs) (filter p ys))
+    there z h = let e = members.filter-passes p z (merged xs ys) h in elim (merged-has z xs ys (members.filter-has p z (merged xs ys) h)) [ inl i ↦ has-merged_first z (filter p xs) (filter p ys) (members.has-filter p z xs i e) | inr j ↦ has-merged_second z (filter p xs) (filter p ys) (members.has-filter p z ys j e) ]
 
-has-ordered : {X : Type 0} (cmp : X → X → Ordering) (z : X) (xs : List X) → ((x y : X) → Has x xs → Has y xs → cmp x y ≡ Equal → x ≡ y) → Has z xs → Has z (ordered cmp xs)
-unfolding ordered
-has-ordered cmp z [] same h = h
-has-ordered cmp z (x ∷ xs) same (inl e) = subst (λ w. Has w (insert_by cmp x (ordered cmp xs))) (sym e) (has-inserted cmp x (ordered cmp xs) (λ y h. same x y (inl refl) (inr (orders.ordered-has cmp y xs h))))
-has-ordered cmp z (x ∷ xs) same (inr i) = orders.has-insert cmp x z (ordered cmp xs) (has-ordered cmp z xs (λ y w h j. same y w (inr h) (inr j)) i)
+    here : AllIn (merged (filter p xs) (filter p ys)) (filter p (merged xs ys))
+    here z h = elim (merged-has z (filter p xs) (filter p ys) h) [ inl i ↦ members.has-filter p z (merged xs ys) (has-merged_first z xs ys (members.filter-has p z xs i)) (members.filter-passes p z xs i) | inr j ↦ members.has-filter p z (merged xs ys) (has-merged_second z xs ys (members.filter-has p z ys j)) (members.filter-passes p z ys j) ]
 
--- elements of a list that ascends that tie are one
-sorted-tied : {X : Type 0} (cmp : X → X → Ordering) (xs : List X) → IsTotalOrder cmp → IsStrictlySortedBy cmp xs → (x y : X) → Has x xs → Has y xs → cmp x y ≡ Equal → x ≡ y
-unfolding IsStrictlySortedBy
-sorted-tied cmp [] total up x y h i e = absurd h
-sorted-tied cmp (z ∷ zs) total up x y (inl a) (inl b) e = a ∙ sym b
-sorted-tied cmp (z ∷ zs) total up x y (inl a) (inr j) e = let l = members.has-AllByRecursion (λ w. cmp z w ≡ Less) y zs up.0 j in let c : Less ≡ Equal = sym l ∙ (ap (λ w. cmp w y) (sym a) ∙ e) in cc
-sorted-tied cmp (z ∷ zs) total up x y (inr i) (inl b) e = let l = members.has-AllByRecursion (λ w. cmp z w ≡ Less) x zs up.0 i in let c : Less ≡ Equal = sym l ∙ (total.antisymm z x ∙ ap ordering_reverse (ap (cmp x) (sym b) ∙ e)) in cc
-sorted-tied cmp (z ∷ zs) total up x y (inr i) (inr j) e = sorted-tied cmp zs total up.1 x y i j e
+-- the first n of a merge are among the first n of each list
+taken-merged : (n m o : ℕ) (xs ys : List Entry) → n ≤ m → n ≤ o → take n (merged (take m xs) (take o ys)) ≡ take n (merged xs ys)
+taken-merged zero m o xs ys a b = refl
+taken-merged (suc n) zero o xs ys a b = absurd (omega arith)
+taken-merged (suc n) (suc m) zero xs ys a b = absurd (omega arith)
+taken-merged (suc n) (suc m) (suc o) [] ys a b = take-take (suc n) (suc o) ys b
+taken-merged (suc n) (suc m) (suc o) (x ∷ xs) [] a b = ap (λ (zs : List Entry). x ∷ zs) (taken-merged n m (suc o) xs [] (omega arith) (omega arith))
+taken-merged (suc n) (suc m) (suc o) (x ∷ xs) (y ∷ ys) a b = by (comes_before x y) (taken-merged n (suc m) o (x ∷ xs) ys (omega arith) (omega arith)) (taken-merged n m (suc o) xs (y ∷ ys) (omega arith) (omega arith))
+  where
+    p : Entry → Bool
+    p = comes_before x
 
--- a list that ascends is the other put in order, where they have the same elements
-in-order : {X : Type 0} (cmp : X → X → Ordering) (xs ys : List X) → IsTotalOrder cmp → IsStrictlySortedBy cmp xs → AllIn xs ys → AllIn ys xs → xs ≡ ordered cmp ys
-in-order cmp xs ys total up f g = orders.ascending-same cmp total xs (ordered cmp ys) up (orders.ascending-ordered cmp total ys) (λ x h. has-ordered cmp x ys (λ a b i j e. sorted-tied cmp xs total up a b (g a i) (g b j) e) (f x h)) (λ x h. g x (orders.ordered-has cmp x ys h))
+    by : (c : Bool) → take n (merged (x ∷ take m xs) (take o ys)) ≡ take n (merged (x ∷ xs) ys) → take n (merged (take m xs) (y ∷ take o ys)) ≡ take n (merged xs (y ∷ ys)) → take (suc n) (cond c (y ∷ front p (take o ys)) [] ++ x ∷ merged (take m xs) (cond c (rest p (take o ys)) (y ∷ take o ys))) ≡ take (suc n) (cond c (y ∷ front p ys) [] ++ x ∷ merged xs (cond c (rest p ys) (y ∷ ys)))
+    by true second first = ap (λ (zs : List Entry). y ∷ zs) second
+    by false second first = ap (λ (zs : List Entry). x ∷ zs) first
 
 -- ---- the image at a floor and the points after it
 
-tied : (o p : Ordering) → ordering_then o p ≡ Equal → p ≡ Equal
-tied Less p e = absurd (cc)
-tied Equal p e = e
-tied Greater p e = absurd (cc)
-
 apart-at : (floor : Time) (upto : Upto) (fs : List ByteFact) (f g : ByteFact) → Has f (image bytes_cmp floor fs) → Has g (points bytes_cmp (is_between floor upto) fs) → point_cmp bytes_cmp g f ≡ Equal → ⊥
-apart-at floor upto fs f g i j e = true≢false (sym (times.lt-weaker (date f) floor (date g) (image-has floor fs f i).1 (both (time_lt floor (date g)) (within upto (date g)) (point-has (is_between floor upto) fs g j).1).0) ∙ equal-lt (date f) (date g) (tied (bytes_cmp (key_of g) (key_of f)) (time_cmp (date f) (date g)) e))
+apart-at floor upto fs f g i j e = true≢false (sym (times.le-lt-lt (date f) floor (date g) (image-has floor fs f i).1 (and-parts (time_lt floor (date g)) (within upto (date g)) (point-has (is_between floor upto) fs g j).1).0) ∙ equal-lt (date f) (date g) (then-Equal (bytes_cmp (key_of g) (key_of f)) (time_cmp (date f) (date g)) e).1)
 
 same-order : (f g : ByteFact) → entry_cmp (entry_of f) (entry_of g) ≡ point_cmp bytes_cmp f g
 same-order f g = ap₂ (point_cmp bytes_cmp) (fact-entry f) (fact-entry g)
@@ -173,30 +164,45 @@ same-order f g = ap₂ (point_cmp bytes_cmp) (fact-entry f) (fact-entry g)
 entries-sorted : (fs : List ByteFact) → IsStrictlySortedBy (point_cmp bytes_cmp) fs → IsStrictlySortedBy entry_cmp (entries_of fs)
 entries-sorted fs up = sorted-map (point_cmp bytes_cmp) entry_cmp entry_of fs (λ a b i j e. same-order a b ∙ e) up
 
-pub whole-merged : (floor : Time) (upto : Upto) (fs : List ByteFact) → merged (entries_of (image bytes_cmp floor fs)) (entries_of (points bytes_cmp (is_between floor upto) fs)) ≡ entries_of (whole_points floor (is_between floor upto) fs)
-unfolding whole_points
-whole-merged floor upto fs = in-order entry_cmp all (older ++ newer) entries-total up there here ∙ (ap (ordered entry_cmp) (sym (map-append entry_of (image bytes_cmp floor fs) (points bytes_cmp (is_between floor upto) fs))) ∙ orders.ordered-map (point_cmp bytes_cmp) entry_cmp entry_of (λ f. Unit {0}) (λ a b p q. same-order a b) (image bytes_cmp floor fs ++ points bytes_cmp (is_between floor upto) fs) (λ f h. tt))
-  where
-    older : List Entry
-    older = entries_of (image bytes_cmp floor fs)
+module _ (floor : Time) (upto : Upto) (fs : List ByteFact) where
+  abbrev older : List Entry
+  older = entries_of (image bytes_cmp floor fs)
 
-    newer : List Entry
-    newer = entries_of (points bytes_cmp (is_between floor upto) fs)
+  abbrev newer : List Entry
+  newer = entries_of (points bytes_cmp (is_between floor upto) fs)
 
-    all : List Entry
-    all = merged older newer
+  older-apart : AreApart older newer
+  older-apart x y h i e = let m = members.map-has entry_of x (image bytes_cmp floor fs) h in let n = members.map-has entry_of y (points bytes_cmp (is_between floor upto) fs) i in apart-at floor upto fs m.0 n.0 m.1 n.1 (sym (same-order n.0 m.0) ∙ (sym (ap₂ entry_cmp n.2 m.2) ∙ e))
 
-    apart : AreApart older newer
-    apart x y h i e = let m = members.map-has entry_of x (image bytes_cmp floor fs) h in let n = members.map-has entry_of y (points bytes_cmp (is_between floor upto) fs) i in apart-at floor upto fs m.0 n.0 m.1 n.1 (sym (same-order n.0 m.0) ∙ (sym (ap₂ entry_cmp n.2 m.2) ∙ e))
+  older-sorted : IsStrictlySortedBy entry_cmp older
+  older-sorted = entries-sorted (image bytes_cmp floor fs) (image-sorted floor fs)
 
-    up : IsStrictlySortedBy entry_cmp all
-    up = merged-sorted older newer (entries-sorted (image bytes_cmp floor fs) (image-sorted floor fs)) (entries-sorted (points bytes_cmp (is_between floor upto) fs) (points-sorted (is_between floor upto) fs)) apart
+  newer-sorted : IsStrictlySortedBy entry_cmp newer
+  newer-sorted = entries-sorted (points bytes_cmp (is_between floor upto) fs) (points-sorted (is_between floor upto) fs)
 
-    there : AllIn all (older ++ newer)
-    there z h = elim (merged-has z older newer h) [ inl i ↦ members.has-append_left z older newer i | inr j ↦ members.has-append_right z older newer j ]
+  whole-merged : merged older newer ≡ entries_of (whole_points floor (is_between floor upto) fs)
+  unfolding whole_points
+  whole-merged = orders.in-order entry_cmp (merged older newer) (older ++ newer) entries-total up (λ a b i j e. orders.sorted-tied entry_cmp (merged older newer) entries-total up a b (here a i) (here b j) e) there here ∙ (ap (ordered entry_cmp) (sym (map-append entry_of (image bytes_cmp floor fs) (points bytes_cmp (is_between floor upto) fs))) ∙ orders.ordered-map (point_cmp bytes_cmp) entry_cmp entry_of (λ f. Unit {0}) (λ a b p q. same-order a b) (image bytes_cmp floor fs ++ points bytes_cmp (is_between floor upto) fs) (λ f h. tt))
+    where
+      up : IsStrictlySortedBy entry_cmp (merged older newer)
+      up = merged-sorted older newer older-sorted newer-sorted older-apart
 
-    here : AllIn (older ++ newer) all
-    here z h = elim (members.has-append_cases z older newer h) [ inl i ↦ has-merged_first z older newer i | inr j ↦ has-merged_second z older newer j ]
+      there : AllIn (merged older newer) (older ++ newer)
+      there z h = elim (merged-has z older newer h) [ inl i ↦ members.has-append_left z older newer i | inr j ↦ members.has-append_right z older newer j ]
+
+      here : AllIn (older ++ newer) (merged older newer)
+      here z h = elim (members.has-append_cases z older newer h) [ inl i ↦ has-merged_first z older newer i | inr j ↦ has-merged_second z older newer j ]
+
+  -- the first of both after a place, merged, begin with the first of the merge after it
+  pub whole-after : (place : Option (Bytes × Time)) (n : ℕ) → take n (merged (entries_of (take n (filter (is_past place) (image bytes_cmp floor fs)))) (entries_of (take n (filter (is_past place) (points bytes_cmp (is_between floor upto) fs))))) ≡ entries_of (take n (filter (is_past place) (whole_points floor (is_between floor upto) fs)))
+  whole-after place n =
+      ap₂ (λ (xs ys : List Entry). take n (merged xs ys)) (sym (cut place n (image bytes_cmp floor fs))) (sym (cut place n (points bytes_cmp (is_between floor upto) fs)))
+      ∙ (taken-merged n n n (filter past older) (filter past newer) (omega arith) (omega arith)
+      ∙ (ap (take n) (sym (filter-merged past older newer older-sorted newer-sorted older-apart) ∙ ap (filter past) whole-merged)
+      ∙ cut place n (whole_points floor (is_between floor upto) fs)))
+    where
+      past : Entry → Bool
+      past e = is_past place (fact_of e)
 
 -- ---- the walk
 

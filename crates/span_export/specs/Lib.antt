@@ -1,3 +1,4 @@
 pub mod Plans
+pub mod Entries
 pub mod Pieces
 pub mod Lists

@@ -1,13 +1,10 @@
 -- What the walks over lists of entries compute.
-use Rattle.std.specs.Prelude.{Bool, false, cond, List, [], ◌∷◌, ◌++◌, Option, Some, None}
+use Rattle.std.specs.Prelude.{Bool, false, cond, List, [], ◌∷◌, ◌++◌}
 use Rattle.std.specs.Ordering.{is_lt}
 use Rattle.mvcc_keys.specs.declared.entries.Entry.{Entry}
 use Rattle.fact_model.specs.Listed.{point_cmp}
 use Rattle.version_store.specs.Tables.{bytes_cmp}
 use Rattle.version_store.specs.Lists.{fact_of}
-use Rattle.span_export.specs.Plans.{same_key}
-
--- ---- lists of puts and deletions, by key and newest first
 
 -- the first elements, as long as they pass a test
 abbrev pub front : {X : Type 0} → (X → Bool) → List X → List X
@@ -31,22 +28,3 @@ first_passes p (x ∷ xs) = p x
 abbrev pub merged : List Entry → List Entry → List Entry
 merged [] ys = ys
 merged (x ∷ xs) ys = front (comes_before x) ys ++ x ∷ merged xs (rest (comes_before x) ys)
-
--- ---- the first of each key
-
-abbrev pub is_same : {X : Type 0} → (X → X → Bool) → Option X → X → Bool
-is_same same None x = false
-is_same same (Some k) x = same k x
-
--- the elements that aren't the same as the last one kept
-abbrev pub firsts : {X : Type 0} → (X → X → Bool) → Option X → List X → List X
-firsts same k [] = []
-firsts same k (x ∷ xs) = cond (is_same same k x) (firsts same k xs) (x ∷ firsts same (Some x) xs)
-
--- the last element kept
-abbrev pub last_of : {X : Type 0} → Option X → List X → Option X
-last_of k [] = k
-last_of k (x ∷ xs) = last_of (Some x) xs
-
-abbrev pub entries_same : Entry → Entry → Bool
-entries_same d e = same_key (fact_of d) (fact_of e)

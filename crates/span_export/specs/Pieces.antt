@@ -6,7 +6,7 @@ use Rattle.mvcc_keys.specs.Codes.{mvcc_cmp}
 use Rattle.mvcc_keys.specs.declared.entries.Entry.{Entry}
 use Rattle.range_tombstones.specs.Intervals.{is_between}
 use Rattle.fact_model.specs.Facts.{date}
-use Rattle.version_store.specs.Tables.{ByteFact, Tables, with_fact}
+use Rattle.version_store.specs.Tables.{ByteFact, Bytes, Tables, with_fact}
 use Rattle.span_export.specs.Plans.{plan_entries}
 use Rattle.span_export.specs.declared.cursor.Place.{Place}
 use Rattle.span_export.specs.declared.plan.Plan.{Plan}
@@ -26,6 +26,26 @@ is_after (Place.Point k t) (Entry.Range lo hi at) = true
 is_after (Place.Range t) (Entry.Put key at value) = false
 is_after (Place.Range t) (Entry.Del key at) = false
 is_after (Place.Range t) (Entry.Range lo hi at) = time_lt t at
+
+-- a range deletion's place
+abbrev pub is_range : Place → Bool
+is_range (Place.Point k t) = false
+is_range (Place.Range t) = true
+
+-- the key and the date of a put or of a deletion
+abbrev pub point_at : Place → Option (Bytes × Time)
+point_at (Place.Point k t) = Some (k, t)
+point_at (Place.Range t) = None
+
+-- a cursor is at a range deletion, so that all puts and deletions were given
+abbrev pub is_past_points : Option Place → Bool
+is_past_points None = false
+is_past_points (Some place) = is_range place
+
+-- the put or deletion at which a cursor is
+abbrev pub point_of : Option Place → Option (Bytes × Time)
+point_of None = None
+point_of (Some place) = point_at place
 
 -- an entry wasn't given yet
 abbrev pub is_left : Option Place → Entry → Bool

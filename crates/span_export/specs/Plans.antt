@@ -1,15 +1,12 @@
 -- The entries of a plan.
-use Rattle.std.specs.Prelude.{ℕ, Bool, not, ◌&&◌, cond, List, [], ◌++◌, filter}
-use Rattle.std.specs.List.{list_any}
-use Rattle.std.specs.Ordering.{is_eq}
-use Rattle.mvcc_keys.specs.Times.{Time, time_lt}
+use Rattle.std.specs.Prelude.{ℕ, Bool, cond, List, [], ◌++◌}
+use Rattle.mvcc_keys.specs.Times.{Time}
 use Rattle.mvcc_keys.specs.declared.entries.Entry.{Entry}
 use Rattle.range_tombstones.specs.Intervals.{is_between}
-use Rattle.fact_model.specs.Facts.{date}
 use Rattle.fact_model.specs.Ordered.{ordered}
-use Rattle.fact_model.specs.Listed.{key_of, point_cmp, points, ranges}
+use Rattle.fact_model.specs.Listed.{point_cmp, points, ranges}
 use Rattle.fact_model.specs.Scans.{image}
-use Rattle.version_store.specs.Tables.{ByteFact, Tables, bytes_cmp, entries_of}
+use Rattle.version_store.specs.Tables.{ByteFact, Tables, bytes_cmp, entries_of, newest_points}
 use Rattle.span_export.specs.declared.plan.Plan.{Plan}
 use Rattle.span_export.specs.declared.plan.Plan.TheVariants.{Changes, Whole}
 
@@ -17,18 +14,6 @@ use Rattle.span_export.specs.declared.plan.Plan.TheVariants.{Changes, Whole}
 abbrev pub start_of : Plan → Time
 start_of (Changes after upto every) = after
 start_of (Whole floor upto every) = floor
-
--- two puts or deletions have one key
-abbrev pub same_key : ByteFact → ByteFact → Bool
-same_key f g = is_eq (bytes_cmp (key_of f) (key_of g))
-
--- none of some puts and deletions has the key of f and a later date
-abbrev pub is_newest : List ByteFact → ByteFact → Bool
-is_newest fs f = not (list_any (λ g. same_key g f && time_lt (date f) (date g)) fs)
-
--- those of some puts and deletions that are the newest of their keys
-unfoldable pub newest_points : List ByteFact → List ByteFact
-newest_points fs = filter (is_newest fs) fs
 
 -- the visible puts and the puts and deletions of an interval, by key and newest first
 unfoldable pub whole_points : Time → (Time → Bool) → List ByteFact → List ByteFact

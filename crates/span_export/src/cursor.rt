@@ -3,7 +3,7 @@ ghost use Rattle.std.specs.Prelude.{◌≡◌, None, IfOk};
 ghost use Rattle.fact_model.specs.Facts.{date};
 ghost use Rattle.fact_model.specs.Listed.{key_of};
 ghost use Rattle.version_store.specs.Lists.{fact_of};
-ghost use Rattle.span_export.specs.Pieces.{place_of, cursor_after, is_after, is_left};
+ghost use Rattle.span_export.specs.Pieces.{place_of, cursor_after, is_after, is_left, is_past_points, is_range, point_at, point_of};
 
 use mvcc_keys::{Blob, Entry, Hlc, Memory, cmp_mvcc};
 use std::alloc::Global;
@@ -79,6 +79,25 @@ impl Place {
         }
     }
 
+    fn is_range(&self) -> bool
+        ensures { result ≡ is_range self.now }
+    {
+        matches!(self, Place::Range { .. })
+    }
+
+    /// The key and the date of a put or of a deletion.
+    fn point(&self, alloc: Global) -> Result<Option<(Blob, Hlc)>, Memory>
+        ensures { IfOk result (λ p. p ≡ point_at self.now) }
+    {
+        match self {
+            Place::Point { key, at } => {
+                let key = key.copy(alloc)?;
+                Ok(Some((key, *at)))
+            }
+            Place::Range { .. } => Ok(None),
+        }
+    }
+
     fn is_before(&self, entry: &Entry) -> bool
         ensures { result ≡ is_after self.now entry.now }
     {
@@ -101,6 +120,26 @@ impl Cursor {
         ensures { result ≡ None }
     {
         Cursor { last: None }
+    }
+
+    /// Whether the last entry given was a range deletion, so that all puts and deletions were given.
+    pub fn is_past_points(&self) -> bool
+        ensures { result ≡ is_past_points self.now }
+    {
+        match &self.last {
+            None => false,
+            Some(place) => place.is_range(),
+        }
+    }
+
+    /// The key and the date of the last put or deletion given, if that was the last entry.
+    pub fn point(&self, alloc: Global) -> Result<Option<(Blob, Hlc)>, Memory>
+        ensures { IfOk result (λ p. p ≡ point_of self.now) }
+    {
+        match &self.last {
+            None => Ok(None),
+            Some(place) => place.point(alloc),
+        }
     }
 
     /// Whether an entry comes after what was given.

@@ -1,5 +1,12 @@
 //! What holds of a plan's entries.
+ghost use Rattle.span_export.specs.Entries.{EntriesAreExact};
 ghost use Rattle.span_export.specs.Pieces.{OthersAreUnseen, PiecesAreWhole};
+
+/// A law: a plan's entries are exactly the facts that it has, each once, puts and deletions by key
+/// and newest first, then range deletions by date.
+pub fn entries_are_exact()
+    ensures { EntriesAreExact }
+{}
 
 /// A law: whatever the size of the pieces, a plan's pieces put together are its entries, each
 /// once and in order, and with pieces of one entry or more there is an end to them. What follows

@@ -5,14 +5,10 @@ mod cursor;
 mod exporting;
 mod laws;
 mod merging;
-mod newest;
 mod parts;
 mod plan;
 
 pub use cursor::{Cursor, Place};
 pub use exporting::export;
-pub use laws::{others_are_unseen, pieces_are_whole};
+pub use laws::{entries_are_exact, others_are_unseen, pieces_are_whole};
 pub use plan::Plan;
-
-#[cfg(test)]
-mod tests;

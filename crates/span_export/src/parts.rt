@@ -1,90 +1,69 @@
-//! The points and the range deletions of a plan.
-ghost use Rattle.std.specs.Prelude.{◌≡◌, true, IfOk};
+//! The puts and deletions of a plan, and its range deletions.
+ghost use Rattle.std.specs.Prelude.{◌≡◌, true, IfOk, take, filter};
 ghost use Rattle.mvcc_keys.specs.Times.{time_le};
 ghost use Rattle.range_tombstones.specs.Intervals.{is_between};
-ghost use Rattle.fact_model.specs.Listed.{points};
-ghost use Rattle.version_store.specs.Tables.{Tables, bytes_cmp, entries_of};
-ghost use Rattle.span_export.specs.Plans.{newest_points, plan_points, plan_ranges, start_of, whole_points};
+ghost use Rattle.version_store.specs.Tables.{Tables, entries_of, is_past};
+ghost use Rattle.span_export.specs.Plans.{plan_points, plan_ranges, start_of, whole_points};
 
 use crate::Plan;
 use crate::merging::merged;
-use crate::newest::newest_of;
-use mvcc_keys::{Entry, Hlc, Memory};
+use mvcc_keys::{Blob, Entry, Hlc, Memory};
 use range_tombstones::Upto;
 use std::alloc::Global;
 use version_store::Versions;
 
-/// All puts and deletions of an interval.
-fn points_of<V: Versions>(
-    store: &V,
-    table: u32,
-    from: Hlc,
-    upto: Upto,
-) -> Result<Vec<Entry>, Memory>
-    ensures { IfOk result (λ seen. (h : Tables) → V.stands store.now h → time_le (h.threshold table) from ≡ true → seen.items ≡ entries_of (points bytes_cmp (is_between from upto) (h.facts table))) }
-{
-    store.events(table, from, upto, &None, usize::MAX)
-}
-
-/// Of the puts and deletions of an interval the newest of each key.
-fn newest_points_of<V: Versions>(
-    alloc: Global,
-    store: &V,
-    table: u32,
-    from: Hlc,
-    upto: Upto,
-) -> Result<Vec<Entry>, Memory>
-    ensures { IfOk result (λ seen. (h : Tables) → V.stands store.now h → time_le (h.threshold table) from ≡ true → seen.items ≡ entries_of (newest_points (points bytes_cmp (is_between from upto) (h.facts table)))) }
-{
-    let points = points_of(store, table, from, upto)?;
-    newest_of(alloc, points)
-}
-
-/// The puts that are visible at a floor, and the puts and deletions of the interval after it.
-fn whole_points_of<V: Versions>(
+/// The first `n` after a place of the puts that are visible at a floor and of the puts and
+/// deletions of the interval after it.
+fn whole_points_after<V: Versions>(
     alloc: Global,
     store: &V,
     table: u32,
     floor: Hlc,
     upto: Upto,
+    place: &Option<(Blob, Hlc)>,
+    n: usize,
 ) -> Result<Vec<Entry>, Memory>
-    ensures { IfOk result (λ seen. (h : Tables) → V.stands store.now h → time_le (h.threshold table) floor ≡ true → seen.items ≡ entries_of (whole_points floor (is_between floor upto) (h.facts table))) }
+    ensures { IfOk result (λ seen. (h : Tables) → V.stands store.now h → time_le (h.threshold table) floor ≡ true → seen.items ≡ entries_of (take n (filter (is_past place.now) (whole_points floor (is_between floor upto) (h.facts table))))) }
 {
-    let older = store.scan_as_of(table, floor)?;
-    let newer = points_of(store, table, floor, upto)?;
-    merged(alloc, older, newer)
+    let older = store.scan_after(table, floor, place, n)?;
+    let newer = store.events(table, floor, upto, place, n)?;
+    let mut all = merged(alloc, older, newer)?;
+    all.truncate(n);
+    Ok(all)
 }
 
-/// The puts and deletions of a plan.
-pub fn plan_points<V: Versions>(
+/// The first `n` puts and deletions of a plan after a place.
+pub fn points_after<V: Versions>(
     alloc: Global,
     store: &V,
     table: u32,
     plan: &Plan,
+    place: &Option<(Blob, Hlc)>,
+    n: usize,
 ) -> Result<Vec<Entry>, Memory>
-    ensures { IfOk result (λ seen. (h : Tables) → V.stands store.now h → time_le (h.threshold table) (start_of plan.now) ≡ true → seen.items ≡ entries_of (plan_points (h.facts table) plan.now)) }
+    ensures { IfOk result (λ seen. (h : Tables) → V.stands store.now h → time_le (h.threshold table) (start_of plan.now) ≡ true → seen.items ≡ entries_of (take n (filter (is_past place.now) (plan_points (h.facts table) plan.now)))) }
 {
     match *plan {
         Plan::Changes {
             after,
             upto,
             every: true,
-        } => points_of(store, table, after, upto),
+        } => store.events(table, after, upto, place, n),
         Plan::Changes {
             after,
             upto,
             every: false,
-        } => newest_points_of(alloc, store, table, after, upto),
+        } => store.newest_events(table, after, upto, place, n),
         Plan::Whole {
             floor,
             upto,
             every: true,
-        } => whole_points_of(alloc, store, table, floor, upto),
+        } => whole_points_after(alloc, store, table, floor, upto, place, n),
         Plan::Whole {
             floor,
             every: false,
             ..
-        } => store.scan_as_of(table, floor),
+        } => store.scan_after(table, floor, place, n),
     }
 }
 

@@ -1,25 +1,22 @@
-//! Work for `bench/run` to time: `store_timing puts N` puts N rows into a map of versions and
-//! scans them, `store_timing ranges N` adds N range deletions, each within the one before, and
-//! asks 100,000 times for a key.
+//! Work for `bench/run` to time on a map of versions; `usage` below has the words.
 #![tactic(auto)]
 
-use mvcc_keys::{Hlc, Memory};
-use range_tombstones::Upto;
+mod exports;
+mod stores;
+
+use mvcc_keys::Memory;
 use std::alloc::Global;
 use std::process::ExitCode;
 use std::{env, io};
-use version_store::{MvccMap, Versions};
 
 fn main(rt: HostRuntime) -> ExitCode {
     let Ok(Some((work, n))) = work_of(&rt) else {
-        let _ = eprintln!(rt; "usage: store_timing puts N | ranges N");
+        let _ = eprintln!(rt;
+            "usage: store_timing puts | ranges | full | history | changes | versions | deletions N"
+        );
         return ExitCode::from(2);
     };
-    let done = match work {
-        Work::Puts => put_and_scan(rt.alloc(), n),
-        Work::Ranges => add_and_ask(rt.alloc(), n),
-    };
-    match done {
+    match done(rt.alloc(), work, n) {
         Ok((first, second)) => match println!(rt; "{first} {second}") {
             Ok(()) => ExitCode::from(0),
             Err(_) => ExitCode::from(5),
@@ -32,65 +29,47 @@ fn main(rt: HostRuntime) -> ExitCode {
 enum Work {
     Puts,
     Ranges,
+    Full,
+    History,
+    Changes,
+    Versions,
+    Deletions,
+}
+
+fn work_named(word: &str) -> Option<Work> {
+    match word {
+        "puts" => Some(Work::Puts),
+        "ranges" => Some(Work::Ranges),
+        "full" => Some(Work::Full),
+        "history" => Some(Work::History),
+        "changes" => Some(Work::Changes),
+        "versions" => Some(Work::Versions),
+        "deletions" => Some(Work::Deletions),
+        _ => None,
+    }
 }
 
 /// What the words ask for, if they do.
 fn work_of(rt: &HostRuntime) -> io::Result<Option<(Work, u32)>> {
     let mut words = env::args(rt)?.skip(1);
     let work = match words.next() {
-        Some(word) if word.as_str() == "puts" => Work::Puts,
-        Some(word) if word.as_str() == "ranges" => Work::Ranges,
-        _ => return Ok(None),
+        Some(word) => work_named(word.as_str()),
+        None => None,
     };
-    match words.next() {
-        Some(word) => Ok(word.as_str().parse::<u32>().ok().map(|n| (work, n))),
-        None => Ok(None),
+    match (work, words.next()) {
+        (Some(work), Some(n)) => Ok(n.as_str().parse::<u32>().ok().map(|n| (work, n))),
+        _ => Ok(None),
     }
 }
 
-/// A key of table 100.
-fn key(i: u32) -> [u8; 5] {
-    let [a, b, c, d] = i.to_be_bytes();
-    [0xec, a, b, c, d]
-}
-
-/// Puts so many rows in no order, and answers how many a scan shows before and after half of them
-/// were deleted.
-fn put_and_scan(alloc: Global, n: u32) -> Result<(usize, usize), Memory> {
-    let mut store = MvccMap::new(alloc);
-    for i in 0..n {
-        let place = i.wrapping_mul(2654435761);
-        store.put(
-            &key(place),
-            Hlc::at_wall(u64::from(i) + 1),
-            &place.to_be_bytes(),
-        )?;
+fn done(alloc: Global, work: Work, n: u32) -> Result<(usize, usize), Memory> {
+    match work {
+        Work::Puts => stores::put_and_scan(alloc, n),
+        Work::Ranges => stores::add_and_ask(alloc, n),
+        Work::Full => exports::full(alloc, n),
+        Work::History => exports::history(alloc, n),
+        Work::Changes => exports::changes(alloc, n),
+        Work::Versions => exports::versions(alloc, n),
+        Work::Deletions => exports::deletions(alloc, n),
     }
-    let all = store.scan_as_of(100, Hlc::at_wall(u64::MAX))?;
-    for i in 0..n / 2 {
-        let place = i.wrapping_mul(2654435761);
-        store.delete(&key(place), Hlc::at_wall(u64::from(n) + u64::from(i) + 1))?;
-    }
-    let rest = store.scan_as_of(100, Hlc::at_wall(u64::MAX))?;
-    Ok((all.len(), rest.len()))
-}
-
-/// Adds so many range deletions, asks for keys among them, and answers how many ranges are listed
-/// and how many keys were there.
-fn add_and_ask(alloc: Global, n: u32) -> Result<(usize, usize), Memory> {
-    let mut store = MvccMap::new(alloc);
-    for i in 0..n {
-        let hi = key((n - i).saturating_add(n));
-        store.delete_range(&key(i), &hi, Hlc::at_wall(u64::from(i) + 2))?;
-    }
-    store.put(&key(n / 2), Hlc::at_wall(u64::MAX), &[1])?;
-    let mut found = 0usize;
-    for i in 0..100000u32 {
-        let asked = key(i.wrapping_mul(7) % n.saturating_mul(2).max(1));
-        if store.get_as_of(&asked, Hlc::at_wall(u64::MAX)).is_some() {
-            found = found.wrapping_add(1);
-        }
-    }
-    let ranges = store.ranges(100, Hlc::zero(), Upto::At(Hlc::at_wall(u64::MAX)))?;
-    Ok((ranges.len(), found))
 }

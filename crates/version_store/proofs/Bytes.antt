@@ -1,5 +1,5 @@
 -- Keys in bytes, and facts and the entries in which they are handed out.
-use Rattle.std.proofs.Common.{◌≡◌, ℕ, ◌==◌, Bool, true, false, cond, refl, ap, ap₂, List, [], ◌∷◌, map, filter, ◌&&◌, Option, Some, None, Ordering, Equal, arith, true≢false, sym}
+use Rattle.std.proofs.Common.{◌≡◌, ℕ, ◌==◌, Bool, true, false, cond, refl, ap, ap₂, List, [], ◌∷◌, filter, ◌&&◌, Option, Some, None, Ordering, Equal, arith, true≢false, sym}
 use Rattle.std.specs.Ordering.{nat_cmp, ordering_then}
 use Rattle.std.proofs.lemmas.Bool.Decides.{nat_tests}
 use Rattle.std.proofs.lemmas.Cmp.{nat_list_cmp_total}
@@ -7,9 +7,7 @@ use Rattle.mvcc_keys.specs.declared.entries.Entry.{Entry}
 use Rattle.fact_model.specs.Facts.{Fact, IsKeyOrder}
 use Rattle.version_store.specs.Tables.{Bytes, ByteFact, bytes_cmp, entry_of, entries_of}
 use Rattle.version_store.specs.Lists.{fact_of, facts_of, is_id}
-
-nats-same : (x y : ℕ) → nat_cmp x y ≡ Equal → x ≡ y
-nats-same x y e = grind (arith, nat_tests)
+use Rattle.list_laws.proofs.Orderings.{nats-Equal}
 
 bytes-same : (xs ys : Bytes) → bytes_cmp xs ys ≡ Equal → xs ≡ ys
 bytes-same [] [] e = refl
@@ -19,7 +17,7 @@ bytes-same (x ∷ xs) (y ∷ ys) e = go (nat_cmp x y) refl e (bytes-same xs ys)
   where
     go : (o : Ordering) → nat_cmp x y ≡ o → ordering_then o (bytes_cmp xs ys) ≡ Equal → (bytes_cmp xs ys ≡ Equal → xs ≡ ys) → x ∷ xs ≡ y ∷ ys
     go Ordering.Less a b more = absurd (cc)
-    go Ordering.Equal a b more = λ i. nats-same x y a i ∷ more b i
+    go Ordering.Equal a b more = λ i. nats-Equal x y a i ∷ more b i
     go Ordering.Greater a b more = absurd (cc)
 
 -- the order of bytes tells different keys apart
@@ -33,7 +31,7 @@ fact-entry (Fact.Put k v t) = refl
 fact-entry (Fact.Del k t) = refl
 fact-entry (Fact.DelRange lo hi t) = refl
 
-entry-fact : (e : Entry) → entry_of (fact_of e) ≡ e
+pub entry-fact : (e : Entry) → entry_of (fact_of e) ≡ e
 entry-fact (Entry.Put k t v) = refl
 entry-fact (Entry.Del k t) = refl
 entry-fact (Entry.Range lo hi t) = refl
@@ -66,14 +64,6 @@ one-table id i (Some n) e own = other n e own
     other n a b = grind (arith, nat_tests)
 
 -- ---- lists
-
-pub filter-mapped : {X Y : Type 0} (f : X → Y) (p : Y → Bool) (xs : List X) → filter p (map f xs) ≡ map f (filter (λ x. p (f x)) xs)
-filter-mapped f p [] = refl
-filter-mapped {X} {Y} f p (x ∷ xs) = by (p (f x)) (filter-mapped f p xs)
-  where
-    by : (b : Bool) → filter p (map f xs) ≡ map f (filter (λ x. p (f x)) xs) → cond b (f x ∷ filter p (map f xs)) (filter p (map f xs)) ≡ map f (cond b (x ∷ filter (λ x. p (f x)) xs) (filter (λ x. p (f x)) xs))
-    by true more = ap (λ (ys : List Y). f x ∷ ys) more
-    by false more = more
 
 pub filter-both : {X : Type 0} (p q : X → Bool) (xs : List X) → filter q (filter p xs) ≡ filter (λ x. p x && q x) xs
 filter-both p q [] = refl

@@ -4,11 +4,12 @@ use Rattle.std.proofs.lemmas.List.{map-append}
 use Rattle.std.proofs.lemmas.List.Elements.{filter-append}
 use Rattle.mvcc_keys.specs.Times.{Time, time_lt, time_le}
 use Rattle.mvcc_keys.specs.declared.entries.Entry.{Entry}
-use Rattle.fact_model.specs.Facts.{date, Has, after}
+use Rattle.fact_model.specs.Facts.{date, after}
+use Rattle.list_laws.specs.Members.{Has}
 use Rattle.fact_model.specs.Listed.{key_of}
 use Rattle.fact_model.specs.Scans.{image, kept}
-use Rattle.fact_model.proofs.TimeLaws as times
-use Rattle.fact_model.proofs.Members as members
+use Rattle.mvcc_keys.proofs.TimeOrder as times
+use Rattle.list_laws.proofs.Members as members
 use Rattle.fact_model.proofs.Stores as stores
 use Rattle.fact_model.proofs.Growth as growth
 use Rattle.version_store.specs.Tables.{ByteFact, bytes_cmp, entry_of, entries_of, table_of, Tables, raised}
@@ -61,7 +62,7 @@ module _ (es : List Entry) (ts : List Threshold) (h : Tables) (id : ℕ) (g : Ti
   -- the table itself, and the others
   own-held : HoldsTable left id g (h.facts id)
   unfolding kept
-  own-held = record { apart = (all.tables id).apart; kept_facts = split id ∙ (ap₂ (λ (xs ys : List ByteFact). xs ++ ys) (ap facts_of (of-all id true seen (image-own id g es)) ∙ facts-entries seen) (stay-own id g es) ∙ (ap (kept bytes_cmp g) (all.tables id).kept_facts ∙ growth.kept-kept bytes_cmp bytes_order (h.threshold id) g (h.facts id) (all.tables id).apart (times.le-from_lt (h.threshold id) g later))) }
+  own-held = record { apart = (all.tables id).apart; kept_facts = split id ∙ (ap₂ (λ (xs ys : List ByteFact). xs ++ ys) (ap facts_of (of-all id true seen (image-own id g es)) ∙ facts-entries seen) (stay-own id g es) ∙ (ap (kept bytes_cmp g) (all.tables id).kept_facts ∙ growth.kept-kept bytes_cmp bytes_order (h.threshold id) g (h.facts id) (all.tables id).apart (times.lt-le (h.threshold id) g later))) }
 
   other-held : (i : ℕ) → (i == id) ≡ false → HoldsTable left i (h.threshold i) (h.facts i)
   other-held i ne = record { apart = (all.tables i).apart; kept_facts = split i ∙ (ap₂ (λ (xs ys : List Entry). facts_of xs ++ facts_of ys) (of-all i false seen (λ f h'. one-table id i (table_of (key_of f)) ne (image-own id g es f h'))) (stay-other id i g es (λ e own. one-table id i (table_of (key_of (fact_of e))) ne own)) ∙ (all.tables i).kept_facts) }
@@ -82,5 +83,5 @@ module _ (es : List Entry) (ts : List Threshold) (h : Tables) (id : ℕ) (g : Ti
       by i false p = other-held i p
 
 pub collect-changed : {R F : Type 0} (r : Result R F) (es new facts : List Entry) (ts news : List Threshold) (id : ℕ) (g was : Time) → was ≡ threshold_in ts id → time_le g was ≡ false → facts ≡ entries_of (image bytes_cmp g (facts_of (of_table id es))) ++ filter (stays id g) es → OnOk r ((new ≡ facts) × (news ≡ record { table = id; at = g } ∷ ts)) → OnOk r ((h : Tables) → Holds es ts h → Holds new news (raised id g h))
-collect-changed (Ok x) es new facts ts news id g was at later made changed = λ h all. subst₂ (λ (xs : List Entry) (us : List Threshold). Holds xs us (raised id g h)) (sym (changed.0 ∙ made)) (sym changed.1) (collected-held es ts h id g (subst (λ (t : Time). time_lt t g ≡ true) (at ∙ all.from id) (times.lt-not_le was g later)) all)
+collect-changed (Ok x) es new facts ts news id g was at later made changed = λ h all. subst₂ (λ (xs : List Entry) (us : List Threshold). Holds xs us (raised id g h)) (sym (changed.0 ∙ made)) (sym changed.1) (collected-held es ts h id g (subst (λ (t : Time). time_lt t g ≡ true) (at ∙ all.from id) (times.not_le-lt was g later)) all)
 collect-changed (Err x) es new facts ts news id g was at later made changed = tt

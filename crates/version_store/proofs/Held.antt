@@ -1,5 +1,5 @@
 -- What a store says that holds what is kept of each table's facts.
-use Rattle.std.proofs.Common.{◌≡◌, ◌≢◌, ◌∙◌, ℕ, ◌==◌, Bool, true, false, cond, sym, refl, ap, ap₂, subst, subst₂, List, [], ◌∷◌, ◌++◌, map, filter, take, Option, Some, option_map, Ok, Err, Result, OnOk, IfOk, ◌⊎◌, inl, inr, not, ◌&&◌, Ordering, append-nil, true≢false}
+use Rattle.std.proofs.Common.{◌≡◌, ◌≢◌, ◌∙◌, ℕ, ◌==◌, Bool, true, false, cond, sym, refl, ap, ap₂, subst, subst₂, List, [], ◌∷◌, ◌++◌, map, filter, take, Option, Some, None, option_map, Ok, Err, Result, OnOk, IfOk, ◌⊎◌, inl, inr, not, ◌&&◌, Ordering, append-nil}
 use Rattle.std.specs.Global.{Vec}
 use Rattle.std.proofs.lemmas.List.{map-append, take-map}
 use Rattle.std.proofs.lemmas.List.Elements.{filter-append}
@@ -7,22 +7,27 @@ use Rattle.mvcc_keys.specs.Times.{Time, time_lt, time_le}
 use Rattle.mvcc_keys.specs.declared.entries.Entry.{Entry}
 use Rattle.range_tombstones.specs.declared.upto.Upto.{Upto}
 use Rattle.range_tombstones.specs.Intervals.{is_between, within}
-use Rattle.fact_model.specs.Facts.{Fact, touches, date, Has, IsApart, value, Version}
+use Rattle.fact_model.specs.Facts.{Fact, touches, date, IsApart, value, Version}
+use Rattle.list_laws.specs.Members.{Has}
 use Rattle.fact_model.specs.Listed.{is_point, key_of, point_cmp, date_cmp, points, ranges}
 use Rattle.fact_model.specs.Ordered.{ordered}
 use Rattle.fact_model.specs.Scans.{scan, image, items, keys_put, kept, put_of}
-use Rattle.fact_model.proofs.TimeLaws as times
-use Rattle.fact_model.proofs.Members as members
+use Rattle.mvcc_keys.proofs.TimeOrder as times
+use Rattle.list_laws.proofs.Members as members
 use Rattle.fact_model.proofs.Orders as orders
 use Rattle.fact_model.proofs.Stores as stores
 use Rattle.fact_model.proofs.Growth as growth
-use Rattle.version_store.specs.Tables.{Bytes, ByteFact, bytes_cmp, entry_of, entries_of, table_of, Tables, no_facts, with_fact, IsOfTable, MayAdd, value_at, scan_at, is_past, events_at, ranges_at}
-use Rattle.version_store.specs.Lists.{fact_of, facts_of, is_id, is_of, of_table, is_listed, listing_cmp, listed}
+use Rattle.version_store.specs.Tables.{Bytes, ByteFact, bytes_cmp, entry_of, entries_of, table_of, Tables, no_facts, with_fact, IsOfTable, MayAdd, value_at, scan_at, scan_after_at, is_past, events_at, newest_events_at, newest_points, ranges_at}
+use Rattle.version_store.specs.Lists.{fact_of, facts_of, is_id, is_of, of_table, is_listed, listing_cmp, listed, entries_same, firsts}
 use Rattle.version_store.specs.Holding.{threshold_in, HoldsTable, Holds}
 use Rattle.version_store.specs.declared.listings.Listing.{Listing}
 use Rattle.version_store.specs.declared.listings.Listing.TheVariants.{Points, Ranges}
 use Rattle.version_store.specs.declared.fact_list.Threshold.{Threshold}
-use Rattle.version_store.proofs.Bytes.{bytes_order, id-turned, id-same, filter-mapped, filter-both, filter-same, fact-entry, entries-facts}
+use Rattle.version_store.proofs.Bytes.{bytes_order, id-turned, id-same, filter-both, filter-same, fact-entry, entries-facts}
+use Rattle.version_store.proofs.FactOrder.{points-sorted}
+use Rattle.version_store.proofs.Firsts.{newest-found}
+use Rattle.list_laws.proofs.Filters.{filter-map}
+use Rattle.list_laws.proofs.Bools.{and-parts}
 
 -- ---- one fact more
 
@@ -88,25 +93,38 @@ scanned r es es' ts id id' t ids same found = answered r es es' ts id id' t (λ 
 
 listed-facts : (l : Listing) (cmp : ByteFact → ByteFact → Ordering) (p : ByteFact → Bool) (id : ℕ) (es : List Entry) → ((a b : Entry) → cmp (fact_of a) (fact_of b) ≡ listing_cmp l a b) → ((e : Entry) → is_listed l e ≡ p (fact_of e)) → listed l id es ≡ entries_of (ordered cmp (filter p (facts_of (of_table id es))))
 unfolding listed
-listed-facts l cmp p id es same test = sym (ap entries_of (ap (ordered cmp) (filter-mapped fact_of p (of_table id es)) ∙ orders.ordered-map (listing_cmp l) cmp fact_of (λ e. Unit {0}) (λ a b x y. same a b) (filter (λ e. p (fact_of e)) (of_table id es)) (λ e x. tt)) ∙ (entries-facts (ordered (listing_cmp l) (filter (λ e. p (fact_of e)) (of_table id es))) ∙ ap (ordered (listing_cmp l)) (filter-both (is_of id) (λ e. p (fact_of e)) es ∙ filter-same (λ e. is_of id e && p (fact_of e)) (λ e. is_of id e && is_listed l e) es (λ e. ap (λ (b : Bool). is_of id e && b) (sym (test e))))))
-
-pub both : (a b : Bool) → (a && b) ≡ true → (a ≡ true) × (b ≡ true)
-both true b e = (refl, e)
-both false b e = absurd (true≢false (sym e))
+listed-facts l cmp p id es same test = sym (ap entries_of (ap (ordered cmp) (filter-map p fact_of (of_table id es)) ∙ orders.ordered-map (listing_cmp l) cmp fact_of (λ e. Unit {0}) (λ a b x y. same a b) (filter (λ e. p (fact_of e)) (of_table id es)) (λ e x. tt)) ∙ (entries-facts (ordered (listing_cmp l) (filter (λ e. p (fact_of e)) (of_table id es))) ∙ ap (ordered (listing_cmp l)) (filter-both (is_of id) (λ e. p (fact_of e)) es ∙ filter-same (λ e. is_of id e && p (fact_of e)) (λ e. is_of id e && is_listed l e) es (λ e. ap (λ (b : Bool). is_of id e && b) (sym (test e))))))
 
 -- what is after the threshold is all there
 held-later : (es : List Entry) (ts : List Threshold) (h : Tables) (id : ℕ) (from : Time) (upto : Upto) (q : ByteFact → Bool) → Holds es ts h → time_le (h.threshold id) from ≡ true → filter (λ f. q f && is_between from upto (date f)) (facts_of (of_table id es)) ≡ filter (λ f. q f && is_between from upto (date f)) (h.facts id)
-held-later es ts h id from upto q all le = ap (filter (λ f. q f && is_between from upto (date f))) (all.tables id).kept_facts ∙ growth.kept-later bytes_cmp bytes_order (h.threshold id) (λ f. q f && is_between from upto (date f)) (h.facts id) (λ f e. times.lt-weaker (h.threshold id) from (date f) le (both (time_lt from (date f)) (within upto (date f)) (both (q f) (is_between from upto (date f)) e).1).0)
+held-later es ts h id from upto q all le = ap (filter (λ f. q f && is_between from upto (date f))) (all.tables id).kept_facts ∙ growth.kept-later bytes_cmp bytes_order (h.threshold id) (λ f. q f && is_between from upto (date f)) (h.facts id) (λ f e. times.le-lt-lt (h.threshold id) from (date f) le (and-parts (time_lt from (date f)) (within upto (date f)) (and-parts (q f) (is_between from upto (date f)) e).1).0)
 
-cut : (place : Option (Bytes × Time)) (n : ℕ) (fs : List ByteFact) → take n (filter (λ e. is_past place (fact_of e)) (entries_of fs)) ≡ entries_of (take n (filter (is_past place) fs))
-cut place n fs = ap (take n) (filter-mapped entry_of (λ e. is_past place (fact_of e)) fs ∙ ap entries_of (filter-same (λ f. is_past place (fact_of (entry_of f))) (is_past place) fs (λ f. ap (is_past place) (fact-entry f)))) ∙ take-map entry_of n (filter (is_past place) fs)
+pub cut : (place : Option (Bytes × Time)) (n : ℕ) (fs : List ByteFact) → take n (filter (λ e. is_past place (fact_of e)) (entries_of fs)) ≡ entries_of (take n (filter (is_past place) fs))
+cut place n fs = ap (take n) (filter-map (λ e. is_past place (fact_of e)) entry_of fs ∙ ap entries_of (filter-same (λ f. is_past place (fact_of (entry_of f))) (is_past place) fs (λ f. ap (is_past place) (fact-entry f)))) ∙ take-map entry_of n (filter (is_past place) fs)
+
+held-points : (es : List Entry) (ts : List Threshold) (h : Tables) (id : ℕ) (from : Time) (upto : Upto) → Holds es ts h → time_le (h.threshold id) from ≡ true → listed (Points from upto) id es ≡ entries_of (points bytes_cmp (is_between from upto) (h.facts id))
+unfolding points
+held-points es ts h id from upto all le = listed-facts (Points from upto) (point_cmp bytes_cmp) (λ f. is_point f && is_between from upto (date f)) id es (λ a b. refl) (λ e. refl) ∙ ap (λ (fs : List ByteFact). entries_of (ordered (point_cmp bytes_cmp) fs)) (held-later es ts h id from upto is_point all le)
 
 held-events : (es : List Entry) (ts : List Threshold) (h : Tables) (id : ℕ) (from : Time) (upto : Upto) (place : Option (Bytes × Time)) (n : ℕ) → Holds es ts h → time_le (h.threshold id) from ≡ true → take n (filter (λ e. is_past place (fact_of e)) (listed (Points from upto) id es)) ≡ events_at h id from upto place n
-unfolding points
-held-events es ts h id from upto place n all le = ap (λ (xs : List Entry). take n (filter (λ e. is_past place (fact_of e)) xs)) (listed-facts (Points from upto) (point_cmp bytes_cmp) (λ f. is_point f && is_between from upto (date f)) id es (λ a b. refl) (λ e. refl) ∙ ap (λ (fs : List ByteFact). entries_of (ordered (point_cmp bytes_cmp) fs)) (held-later es ts h id from upto is_point all le)) ∙ cut place n (ordered (point_cmp bytes_cmp) (filter (λ f. is_point f && is_between from upto (date f)) (h.facts id)))
+held-events es ts h id from upto place n all le = ap (λ (xs : List Entry). take n (filter (λ e. is_past place (fact_of e)) xs)) (held-points es ts h id from upto all le) ∙ cut place n (points bytes_cmp (is_between from upto) (h.facts id))
 
 pub events-found : {F : Type 0} (r : Result (Vec Entry) F) (es es' : List Entry) (ts : List Threshold) (id id' : ℕ) (from : Time) (upto : Upto) (place : Option (Bytes × Time)) (n : ℕ) → id' ≡ id → es' ≡ es → IfOk r (λ seen. seen.items ≡ take n (filter (λ e. is_past place (fact_of e)) (listed (Points from upto) id' es'))) → IfOk r (λ seen. (h : Tables) → Holds es ts h → time_le (h.threshold id) from ≡ true → seen.items ≡ events_at h id from upto place n)
 events-found r es es' ts id id' from upto place n ids same found = answered r es es' ts id id' from (λ i xs. take n (filter (λ e. is_past place (fact_of e)) (listed (Points from upto) i xs))) (λ h. events_at h id from upto place n) (λ h all le. held-events es ts h id from upto place n all le) ids same found
+
+held-newest : (es : List Entry) (ts : List Threshold) (h : Tables) (id : ℕ) (from : Time) (upto : Upto) (place : Option (Bytes × Time)) (n : ℕ) → Holds es ts h → time_le (h.threshold id) from ≡ true → take n (filter (λ e. is_past place (fact_of e)) (firsts entries_same None (listed (Points from upto) id es))) ≡ newest_events_at h id from upto place n
+held-newest es ts h id from upto place n all le =
+    let fs = points bytes_cmp (is_between from upto) (h.facts id) in
+    ap (λ (xs : List Entry). take n (filter (λ e. is_past place (fact_of e)) xs)) (ap (firsts entries_same None) (held-points es ts h id from upto all le) ∙ newest-found fs (points-sorted (is_between from upto) (h.facts id))) ∙ cut place n (newest_points fs)
+
+pub newest-events-found : {F : Type 0} (r : Result (Vec Entry) F) (es es' : List Entry) (ts : List Threshold) (id id' : ℕ) (from : Time) (upto : Upto) (place : Option (Bytes × Time)) (n : ℕ) → id' ≡ id → es' ≡ es → IfOk r (λ seen. seen.items ≡ take n (filter (λ e. is_past place (fact_of e)) (firsts entries_same None (listed (Points from upto) id' es')))) → IfOk r (λ seen. (h : Tables) → Holds es ts h → time_le (h.threshold id) from ≡ true → seen.items ≡ newest_events_at h id from upto place n)
+newest-events-found r es es' ts id id' from upto place n ids same found = answered r es es' ts id id' from (λ i xs. take n (filter (λ e. is_past place (fact_of e)) (firsts entries_same None (listed (Points from upto) i xs)))) (λ h. newest_events_at h id from upto place n) (λ h all le. held-newest es ts h id from upto place n all le) ids same found
+
+held-scan-after : (es : List Entry) (ts : List Threshold) (h : Tables) (id : ℕ) (t : Time) (place : Option (Bytes × Time)) (n : ℕ) → Holds es ts h → time_le (h.threshold id) t ≡ true → take n (filter (λ e. is_past place (fact_of e)) (entries_of (image bytes_cmp t (facts_of (of_table id es))))) ≡ scan_after_at h id t place n
+held-scan-after es ts h id t place n all le = ap (λ (xs : List Entry). take n (filter (λ e. is_past place (fact_of e)) xs)) (held-scan es ts h id t all le) ∙ cut place n (image bytes_cmp t (h.facts id))
+
+pub scanned-after : {F : Type 0} (r : Result (Vec Entry) F) (es es' : List Entry) (ts : List Threshold) (id id' : ℕ) (t : Time) (place : Option (Bytes × Time)) (n : ℕ) → id' ≡ id → es' ≡ es → IfOk r (λ seen. seen.items ≡ take n (filter (λ e. is_past place (fact_of e)) (entries_of (image bytes_cmp t (facts_of (of_table id' es')))))) → IfOk r (λ seen. (h : Tables) → Holds es ts h → time_le (h.threshold id) t ≡ true → seen.items ≡ scan_after_at h id t place n)
+scanned-after r es es' ts id id' t place n ids same found = answered r es es' ts id id' t (λ i xs. take n (filter (λ e. is_past place (fact_of e)) (entries_of (image bytes_cmp t (facts_of (of_table i xs)))))) (λ h. scan_after_at h id t place n) (λ h all le. held-scan-after es ts h id t place n all le) ids same found
 
 held-ranges : (es : List Entry) (ts : List Threshold) (h : Tables) (id : ℕ) (from : Time) (upto : Upto) → Holds es ts h → time_le (h.threshold id) from ≡ true → listed (Ranges from upto) id es ≡ ranges_at h id from upto
 unfolding ranges

@@ -1,5 +1,7 @@
 pub mod Bytes
 pub mod Places
+pub mod FactOrder
+pub mod Firsts
 pub mod Walks
 pub mod Held
 pub mod Collects
@@ -10,3 +12,4 @@ pub mod RowScans
 pub mod MapHeld
 pub mod MapLists
 pub mod MapCollects
+pub mod MapPlaces

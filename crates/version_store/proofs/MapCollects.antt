@@ -4,12 +4,14 @@ use Rattle.std.specs.Global.{Vec}
 use Rattle.std.specs.BTreeMap.{is_at}
 use Rattle.std.specs.Map.{lookup, set_value}
 use Rattle.mvcc_keys.specs.Times.{Time, time_le, time_lt}
-use Rattle.range_tombstones.specs.Ranges.{RangeDeletion, newest_cover, ranges_after}
-use Rattle.fact_model.specs.Facts.{Fact, AllIn, Has, IsApart, after, date, value}
+use Rattle.range_tombstones.specs.declared.deletion.RangeDeletion.{RangeDeletion}
+use Rattle.range_tombstones.specs.Ranges.{newest_cover, ranges_after}
+use Rattle.fact_model.specs.Facts.{Fact, IsApart, after, date, value}
+use Rattle.list_laws.specs.Members.{AllIn, Has}
 use Rattle.fact_model.specs.Facts as facts
 use Rattle.fact_model.specs.Scans.{image, kept, put_of}
-use Rattle.fact_model.proofs.TimeLaws as times
-use Rattle.fact_model.proofs.Members as members
+use Rattle.mvcc_keys.proofs.TimeOrder as times
+use Rattle.list_laws.proofs.Members as members
 use Rattle.fact_model.proofs.Stores as stores
 use Rattle.fact_model.proofs.Growth as growth
 use Rattle.fact_model.proofs.Scanned as scanned
@@ -37,10 +39,10 @@ trimmed-has g cover v (w ∷ ws) h = by (time_lt g w.at) refl h (trimmed-has g c
 
     by : (b : Bool) → time_lt g w.at ≡ b → Has v (cond b (w ∷ trimmed g cover ws) (cond (shows w.value (is_hidden w.at cover)) (w ∷ []) [])) → (Has v (trimmed g cover ws) → Has v ws × (time_lt g v.at ≡ true) ⊎ (first_upto g ws ≡ Some v) × (shows v.value (is_hidden v.at cover) ≡ true)) → Has v (w ∷ ws) × (time_lt g v.at ≡ true) ⊎ (cond (time_le w.at g) (Some w) (first_upto g ws) ≡ Some v) × (shows v.value (is_hidden v.at cover) ≡ true)
     by true e (inl same) more = inl (inl same, ap (λ (x : Version). time_lt g x.at) same ∙ e)
-    by true e (inr i) more = elim (more i) [ inl p ↦ inl (inr p.0, p.1) | inr p ↦ inr (ap (λ (b : Bool). cond b (Some w) (first_upto g ws)) (times.lt-le_false g w.at e) ∙ p.0, p.1) ]
+    by true e (inr i) more = elim (more i) [ inl p ↦ inl (inr p.0, p.1) | inr p ↦ inr (ap (λ (b : Bool). cond b (Some w) (first_upto g ws)) (times.lt-not_le g w.at e) ∙ p.0, p.1) ]
     by false e i more =
         let m = one (shows w.value (is_hidden w.at cover)) refl i in
-        inr (ap (λ (b : Bool). cond b (Some w) (first_upto g ws)) (times.le-not_lt g w.at e) ∙ ap Some (sym m.0), ap (λ (x : Version). shows x.value (is_hidden x.at cover)) m.0 ∙ m.1)
+        inr (ap (λ (b : Bool). cond b (Some w) (first_upto g ws)) (times.not_lt-le g w.at e) ∙ ap Some (sym m.0), ap (λ (x : Version). shows x.value (is_hidden x.at cover)) m.0 ∙ m.1)
 
 first-has : (g : Time) (v : Version) (vs : List Version) → first_upto g vs ≡ Some v → Has v vs
 unfolding first_upto
@@ -68,9 +70,9 @@ first-trimmed g cover v [] e s = absurd (cc)
 first-trimmed g cover v (w ∷ ws) e s = by (time_lt g w.at) refl e (λ f. first-trimmed g cover v ws f s)
   where
     by : (b : Bool) → time_lt g w.at ≡ b → cond (time_le w.at g) (Some w) (first_upto g ws) ≡ Some v → (first_upto g ws ≡ Some v → Has v (trimmed g cover ws)) → Has v (cond b (w ∷ trimmed g cover ws) (cond (shows w.value (is_hidden w.at cover)) (w ∷ []) []))
-    by true m f more = inr (more (sym (ap (λ (b : Bool). cond b (Some w) (first_upto g ws)) (times.lt-le_false g w.at m)) ∙ f))
+    by true m f more = inr (more (sym (ap (λ (b : Bool). cond b (Some w) (first_upto g ws)) (times.lt-not_le g w.at m)) ∙ f))
     by false m f more =
-        let i : Some w ≡ Some v = sym (ap (λ (b : Bool). cond b (Some w) (first_upto g ws)) (times.le-not_lt g w.at m)) ∙ f in
+        let i : Some w ≡ Some v = sym (ap (λ (b : Bool). cond b (Some w) (first_upto g ws)) (times.not_lt-le g w.at m)) ∙ f in
         let same : w ≡ v = cc in
         subst (λ (b : Bool). Has v (cond b (w ∷ []) [])) (sym (ap (λ (x : Version). shows x.value (is_hidden x.at cover)) same ∙ s)) (inl (sym same))
 
@@ -232,5 +234,5 @@ table-collected tables new id g t u e made low high h all = subst (λ ts. KeepsA
     k = own-table tables h id t e all
 
     by : (b : Bool) → time_le g t.threshold ≡ b → KeepsTable (Some u) (cond (time_lt (h.threshold id) g) g (h.threshold id)) (h.facts id)
-    by true m = subst (λ (b : Bool). KeepsTable (Some u) (cond b g (h.threshold id)) (h.facts id)) (sym (times.le-lt_false (h.threshold id) g (ap (time_le g) (sym k.from) ∙ m))) (subst (λ (x : TableVersions). KeepsTable (Some x) (h.threshold id) (h.facts id)) (sym (low m)) k)
-    by false m = let lt = times.lt-not_le (h.threshold id) g (ap (time_le g) (sym k.from) ∙ m) in subst (λ (b : Bool). KeepsTable (Some u) (cond b g (h.threshold id)) (h.facts id)) (sym lt) (keeps-collected g (h.threshold id) (h.facts id) t u k (times.le-from_lt (h.threshold id) g lt) (high m))
+    by true m = subst (λ (b : Bool). KeepsTable (Some u) (cond b g (h.threshold id)) (h.facts id)) (sym (times.le-not_lt (h.threshold id) g (ap (time_le g) (sym k.from) ∙ m))) (subst (λ (x : TableVersions). KeepsTable (Some x) (h.threshold id) (h.facts id)) (sym (low m)) k)
+    by false m = let lt = times.not_le-lt (h.threshold id) g (ap (time_le g) (sym k.from) ∙ m) in subst (λ (b : Bool). KeepsTable (Some u) (cond b g (h.threshold id)) (h.facts id)) (sym lt) (keeps-collected g (h.threshold id) (h.facts id) t u k (times.lt-le (h.threshold id) g lt) (high m))

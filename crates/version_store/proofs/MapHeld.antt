@@ -8,21 +8,23 @@ use Rattle.std.specs.Ordering.{match_ordering}
 use Rattle.std.proofs.lemmas.Bool.Decides.{nat_tests}
 use Rattle.mvcc_keys.specs.declared.entries.Entry.{Entry}
 use Rattle.mvcc_keys.specs.Times.{Time, zero_time, time_le, time_lt}
-use Rattle.range_tombstones.specs.Ranges.{RangeDeletion, bytes_lt, is_dated, newest_cover, range, with_range}
-use Rattle.fact_model.specs.Facts.{Fact, AllIn, Has, IsApart, date, newest, touches, value}
+use Rattle.range_tombstones.specs.declared.deletion.RangeDeletion.{RangeDeletion}
+use Rattle.range_tombstones.specs.Ranges.{bytes_lt, is_dated, newest_cover, range, with_range}
+use Rattle.fact_model.specs.Facts.{Fact, IsApart, date, newest, touches, value}
+use Rattle.list_laws.specs.Members.{AllIn, Has}
 use Rattle.fact_model.specs.Facts as facts
 use Rattle.fact_model.specs.Listed.{is_point, key_of}
+use Rattle.fact_model.specs.Listings.{RangesDiffer}
 use Rattle.fact_model.specs.Scans.{image, items, kept, keys_put, scan, put_of}
 use Rattle.fact_model.specs.Ordered.{ordered}
-use Rattle.range_tombstones.proofs.TimeLaws as dates
-use Rattle.fact_model.proofs.Members as members
+use Rattle.list_laws.proofs.Members as members
 use Rattle.fact_model.proofs.Stores as stores
 use Rattle.fact_model.proofs.Growth as growth
 use Rattle.fact_model.proofs.Scanned as scanned
-use Rattle.fact_model.proofs.TimeLaws as times
+use Rattle.mvcc_keys.proofs.TimeOrder as times
 use Rattle.version_store.specs.Tables.{Bytes, ByteFact, bytes_cmp, entries_of, table_of, Tables, no_facts, with_fact, MayAdd, value_at, scan_at}
 use Rattle.version_store.specs.Rows.{map_facts, range_fact, range_facts, version_fact, AllNewestFirst, KeysAscend, first_upto, hits, row_at, row_shown, IsRowAdded}
-use Rattle.version_store.specs.MapHolding.{held_facts, RangesDiffer, KeepsTable, table_in, KeepsAll, IsMade}
+use Rattle.version_store.specs.MapHolding.{held_facts, KeepsTable, table_in, KeepsAll, IsMade}
 use Rattle.version_store.specs.declared.row.Version.{Version}
 use Rattle.version_store.specs.declared.table_versions.TableVersions.{TableVersions}
 use Rattle.version_store.proofs.Bytes.{bytes_order, id-itself, id-same}
@@ -112,12 +114,12 @@ unfolding with_range
 has-with r s rs other h = by (time_le r.at s.at) refl
   where
     by : (b : Bool) → time_le r.at s.at ≡ b → Has s (filter (λ x. time_lt x.at r.at) rs ++ r ∷ filter (λ x. time_lt r.at x.at) rs)
-    by false e = members.has-append_left s (filter (λ x. time_lt x.at r.at) rs) (r ∷ filter (λ x. time_lt r.at x.at) rs) (members.has-filter (λ x. time_lt x.at r.at) s rs h (times.lt-not_le s.at r.at e))
+    by false e = members.has-append_left s (filter (λ x. time_lt x.at r.at) rs) (r ∷ filter (λ x. time_lt r.at x.at) rs) (members.has-filter (λ x. time_lt x.at r.at) s rs h (times.not_le-lt s.at r.at e))
     by true e = members.has-append_right s (filter (λ x. time_lt x.at r.at) rs) (r ∷ filter (λ x. time_lt r.at x.at) rs) (inr (members.has-filter (λ x. time_lt r.at x.at) s rs h (above (time_lt r.at s.at) refl)))
       where
         above : (c : Bool) → time_lt r.at s.at ≡ c → c ≡ true
         above true f = refl
-        above false f = absurd (other (times.le-antisymm s.at r.at (times.le-not_lt r.at s.at f) e))
+        above false f = absurd (other (times.le-antisymm s.at r.at (times.not_lt-le r.at s.at f) e))
 
 own-with : (r : RangeDeletion) (rs : List RangeDeletion) → Has r (with_range r rs)
 unfolding with_range
@@ -152,7 +154,7 @@ new-date t h id lo hi at k may = none t.ranges (λ s j. may.other_range (range_f
           where
             by : (c : Bool) → (a.wall == b.wall && a.logical == b.logical) ≡ c → c ≡ false
             by false e = refl
-            by true e = absurd (ne (sym (dates.same-is a b e)))
+            by true e = absurd (ne (sym (times.eq-is a b e)))
 
 -- ---- tables by id
 
@@ -288,7 +290,7 @@ value-none tables own table key at is owned e h id all key_of le =
     let k = subst (λ o. KeepsTable o (h.threshold id) (h.facts id)) (ap (table_in tables) (sym one) ∙ e) (all.table id) in
     ap (option_map (λ (v : facts.Version Bytes). v.value)) (held-value None (h.threshold id) (h.facts id) k key at le)
 
-scan-found : (tables : List (ℕ × TableVersions)) (id : ℕ) (at : Time) (t : TableVersions) (h : Tables) → table_in tables id ≡ Some t → KeysAscend t.rows.entries → KeepsAll tables h → time_le (h.threshold id) at ≡ true → hits at t.ranges t.rows.entries ≡ scan_at h id at
+pub scan-found : (tables : List (ℕ × TableVersions)) (id : ℕ) (at : Time) (t : TableVersions) (h : Tables) → table_in tables id ≡ Some t → KeysAscend t.rows.entries → KeepsAll tables h → time_le (h.threshold id) at ≡ true → hits at t.ranges t.rows.entries ≡ scan_at h id at
 scan-found tables id at t h e up all le = let k = own-table tables h id t e all in hits-scan at t.ranges t.rows.entries up k.first ∙ ap entries_of (held-image (Some t) (h.threshold id) (h.facts id) k at le)
 
 pub scan-none : (tables : List (ℕ × TableVersions)) (id : ℕ) (at : Time) (h : Tables) → table_in tables id ≡ None → KeepsAll tables h → time_le (h.threshold id) at ≡ true → [] ≡ scan_at h id at

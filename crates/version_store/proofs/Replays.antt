@@ -1,5 +1,5 @@
 -- One call more.
-use Rattle.std.proofs.Common.{◌≡◌, ◌∙◌, ℕ, ◌+◌, ◌<◌, zero, suc, refl, ap, ap₂, sym, subst, List, [], ◌∷◌, ◌++◌, length, get_or, take, arith, Result, Ok, Err, OnErr}
+use Rattle.std.proofs.Common.{◌≡◌, ◌∙◌, ℕ, ◌+◌, ◌<◌, zero, suc, refl, ap, ap₂, sym, subst, List, [], ◌∷◌, ◌++◌, length, get_or, take, arith}
 use Rattle.std.proofs.lemmas.List.{take_more}
 use Rattle.version_store.specs.Tables.{Tables}
 use Rattle.version_store.specs.Calls.{after_call, after_calls, answer_of, answers_of, IsAllowed, AreAllowed}
@@ -30,7 +30,3 @@ allowed-at (c ∷ cs) (suc i) d h l all = allowed-at cs i d (after_call c h) (om
 
 pub allowed : (cs : List VersionCall) (i : ℕ) (c : VersionCall) (h : Tables) → i < length cs → c ≡ get_or cs i c → AreAllowed h cs → IsAllowed (after_calls (take i cs) h) c
 allowed cs i c h l at all = subst (IsAllowed (after_calls (take i cs) h)) (sym at) (allowed-at cs i c h l all)
-
-pub on_err : {X E : Type 0} (r : Result X E) (P : Type 0) → P → OnErr r P
-on_err (Ok x) P p = tt
-on_err (Err e) P p = p

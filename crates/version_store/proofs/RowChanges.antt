@@ -6,7 +6,8 @@ use Rattle.std.proofs.lemmas.Bool.Decides.{nat_tests}
 use Rattle.std.proofs.lemmas.List.{drop_more}
 use Rattle.mvcc_keys.specs.Times.{Time, time_lt}
 use Rattle.mvcc_keys.specs.declared.entries.Entry.{Entry}
-use Rattle.range_tombstones.specs.Ranges.{RangeDeletion, newest_cover}
+use Rattle.range_tombstones.specs.declared.deletion.RangeDeletion.{RangeDeletion}
+use Rattle.range_tombstones.specs.Ranges.{newest_cover}
 use Rattle.version_store.specs.Tables.{Bytes, entries_of}
 use Rattle.version_store.specs.Rows.{count_left, count_newer, is_hidden, row_events, row_facts, shows, trimmed, trimmed_rows, with_row, with_version}
 use Rattle.version_store.specs.declared.row.Version.{Version}

@@ -6,10 +6,11 @@ use Rattle.std.specs.BTreeMap.{is_at, insert_entry}
 use Rattle.std.specs.Map.{lookup, set_value}
 use Rattle.std.proofs.lemmas.Cmp.{tied_itself}
 use Rattle.mvcc_keys.specs.Times.{Time, time_le, time_lt}
-use Rattle.fact_model.specs.Facts.{Has, date, touches}
+use Rattle.fact_model.specs.Facts.{date, touches}
+use Rattle.list_laws.specs.Members.{Has}
 use Rattle.fact_model.specs.Listed.{key_of}
-use Rattle.fact_model.proofs.TimeLaws as times
-use Rattle.fact_model.proofs.Members as members
+use Rattle.mvcc_keys.proofs.TimeOrder as times
+use Rattle.list_laws.proofs.Members as members
 use Rattle.version_store.specs.Tables.{Bytes, ByteFact, bytes_cmp}
 use Rattle.version_store.specs.Rows.{held, version_fact, row_facts, map_facts, IsNewestFirst, AllNewestFirst, with_version, IsInserted, IsRowAdded}
 use Rattle.version_store.specs.declared.row.Version.{Version}
@@ -20,7 +21,7 @@ earlier s t p q = by (time_le t s) refl
   where
     by : (b : Bool) → time_le t s ≡ b → time_lt s t ≡ true
     by true e = absurd (q (times.le-antisymm s t p e))
-    by false e = times.lt-not_le s t e
+    by false e = times.not_le-lt s t e
 
 -- ---- what a version's fact is
 
@@ -102,7 +103,7 @@ with-first v (w ∷ ws) first fresh = by (time_lt v.at w.at) refl (with-first v 
     by : (b : Bool) → time_lt v.at w.at ≡ b → IsNewestFirst (with_version v ws) → IsNewestFirst (cond b (w ∷ with_version v ws) (v ∷ w ∷ ws))
     by true e more = (members.AllByRecursion-has (λ u. time_lt u.at w.at ≡ true) (with_version v ws) (λ u h. elim (with-has u v ws h) [ inl same ↦ ap (λ (x : Version). time_lt x.at w.at) same ∙ e | inr i ↦ older u i ]), more)
     by false e more =
-        let lt : time_lt w.at v.at ≡ true = earlier w.at v.at (times.le-not_lt v.at w.at e) (fresh w (inl refl)) in
+        let lt : time_lt w.at v.at ≡ true = earlier w.at v.at (times.not_lt-le v.at w.at e) (fresh w (inl refl)) in
         (members.AllByRecursion-has (λ u. time_lt u.at v.at ≡ true) (w ∷ ws) (λ u h. elim h [ inl same ↦ ap (λ (x : Version). time_lt x.at v.at) same ∙ lt | inr i ↦ times.lt-trans u.at w.at v.at (older u i) lt ]), first)
 
 -- ---- the row of a key among all

@@ -8,14 +8,16 @@ use Rattle.std.specs.Ordering.{ordering_reverse}
 use Rattle.std.proofs.lemmas.Cmp.{tied_itself}
 use Rattle.mvcc_keys.specs.Times.{Time, time_le, time_lt}
 use Rattle.mvcc_keys.specs.declared.entries.Entry.{Entry}
-use Rattle.range_tombstones.specs.Ranges.{RangeDeletion, covers, later_date, newest_cover}
-use Rattle.fact_model.specs.Facts.{Fact, AllIn, Has, date, later, newest, touches, value, version_of}
+use Rattle.range_tombstones.specs.declared.deletion.RangeDeletion.{RangeDeletion}
+use Rattle.range_tombstones.specs.Ranges.{covers, later_date, newest_cover}
+use Rattle.fact_model.specs.Facts.{Fact, date, later, newest, touches, value, version_of}
+use Rattle.list_laws.specs.Members.{Has}
 use Rattle.fact_model.specs.Facts as facts
 use Rattle.fact_model.specs.Joined.{joined}
 use Rattle.fact_model.specs.Scans.{image, items, keys_put, put_of}
-use Rattle.fact_model.proofs.TimeLaws as times
-use Rattle.fact_model.proofs.Members as members
-use Rattle.fact_model.proofs.Newest.{IsNewest}
+use Rattle.mvcc_keys.proofs.TimeOrder as times
+use Rattle.list_laws.proofs.Members as members
+use Rattle.fact_model.specs.Newest.{IsNewest}
 use Rattle.fact_model.proofs.Newest as newests
 use Rattle.fact_model.proofs.Joins as joins
 use Rattle.fact_model.proofs.Scanned as scanned
@@ -37,7 +39,7 @@ newest-row k t (v ∷ vs) up = ap₂ (λ (a : Bool) (d : Time). cond (a && time_
   where
     first : (r : Option ByteFact) → IsNewest bytes_cmp k t (row_facts k vs) r → later (version_fact k v) r ≡ Some (version_fact k v)
     first None n = refl
-    first (Some g) n = let m = members.map-has (version_fact k) g vs n.among in let lt = members.has-AllByRecursion (λ (w : Version). time_lt w.at v.at ≡ true) m.0 vs up.0 m.1 in ap (λ (b : Bool). cond b (Some g) (Some (version_fact k v))) (ap₂ time_lt (held-date k v.at v.value) (ap date m.2 ∙ held-date k m.0.at m.0.value) ∙ times.le-lt_false v.at m.0.at (times.le-from_lt m.0.at v.at lt))
+    first (Some g) n = let m = members.map-has (version_fact k) g vs n.among in let lt = members.has-AllByRecursion (λ (w : Version). time_lt w.at v.at ≡ true) m.0 vs up.0 m.1 in ap (λ (b : Bool). cond b (Some g) (Some (version_fact k v))) (ap₂ time_lt (held-date k v.at v.value) (ap date m.2 ∙ held-date k m.0.at m.0.value) ∙ times.le-not_lt v.at m.0.at (times.lt-le m.0.at v.at lt))
 
     by : (b : Bool) → newest bytes_cmp k t (row_facts k vs) ≡ option_map (version_fact k) (first_upto t vs) → cond b (later (version_fact k v) (newest bytes_cmp k t (row_facts k vs))) (newest bytes_cmp k t (row_facts k vs)) ≡ option_map (version_fact k) (cond b (Some v) (first_upto t vs))
     by true more = first (newest bytes_cmp k t (row_facts k vs)) (newests.newest-is bytes_cmp k t (row_facts k vs))

@@ -2,9 +2,9 @@
 use Rattle.std.specs.Prelude.{◌≡◌, ℕ, true, List, [], ◌∷◌, Option, Some, None}
 use Rattle.mvcc_keys.specs.Times.{Time, time_le}
 use Rattle.fact_model.specs.Facts.{Fact}
-use Rattle.version_store.specs.Tables.{Bytes, ByteFact, Tables, table_of, with_fact, raised, MayAdd, value_at, scan_at, events_at, ranges_at}
+use Rattle.version_store.specs.Tables.{Bytes, ByteFact, Tables, table_of, with_fact, raised, MayAdd, value_at, scan_at, scan_after_at, events_at, newest_events_at, ranges_at}
 use Rattle.version_store.specs.declared.calls.VersionCall.{VersionCall}
-use Rattle.version_store.specs.declared.calls.VersionCall.TheVariants.{Put, Delete, DeleteRange, GetAsOf, ScanAsOf, Events, Ranges, Collect, Threshold}
+use Rattle.version_store.specs.declared.calls.VersionCall.TheVariants.{Put, Delete, DeleteRange, GetAsOf, ScanAsOf, ScanAfter, Events, NewestEvents, Ranges, Collect, Threshold}
 use Rattle.version_store.specs.declared.calls.VersionAnswer.{VersionAnswer}
 
 -- the fact is accepted in the table of its key
@@ -19,7 +19,9 @@ after_call (Delete key at) h = accepted (table_of key) (Fact.Del key at) h
 after_call (DeleteRange lo hi at) h = accepted (table_of lo) (Fact.DelRange lo hi at) h
 after_call (GetAsOf key t) h = h
 after_call (ScanAsOf table t) h = h
+after_call (ScanAfter table t after n) h = h
 after_call (Events table from upto after n) h = h
+after_call (NewestEvents table from upto after n) h = h
 after_call (Ranges table from upto) h = h
 after_call (Collect table g) h = raised table g h
 after_call (Threshold table) h = h
@@ -31,7 +33,9 @@ IsAllowed h (Delete key at) = (id : ℕ) × MayAdd h id (Fact.Del key at)
 IsAllowed h (DeleteRange lo hi at) = (id : ℕ) × MayAdd h id (Fact.DelRange lo hi at)
 IsAllowed h (GetAsOf key t) = (id : ℕ) × (table_of key ≡ Some id) × (time_le (h.threshold id) t ≡ true)
 IsAllowed h (ScanAsOf table t) = time_le (h.threshold table) t ≡ true
+IsAllowed h (ScanAfter table t after n) = time_le (h.threshold table) t ≡ true
 IsAllowed h (Events table from upto after n) = time_le (h.threshold table) from ≡ true
+IsAllowed h (NewestEvents table from upto after n) = time_le (h.threshold table) from ≡ true
 IsAllowed h (Ranges table from upto) = time_le (h.threshold table) from ≡ true
 IsAllowed h (Collect table g) = Unit {0}
 IsAllowed h (Threshold table) = Unit {0}
@@ -48,6 +52,8 @@ answer_of h (Delete key at) = VersionAnswer.Delete
 answer_of h (DeleteRange lo hi at) = VersionAnswer.DeleteRange
 answer_of h (GetAsOf key t) = VersionAnswer.GetAsOf (value_in h (table_of key) key t)
 answer_of h (ScanAsOf table t) = VersionAnswer.ScanAsOf (scan_at h table t)
+answer_of h (ScanAfter table t after n) = VersionAnswer.ScanAfter (scan_after_at h table t after n)
+answer_of h (NewestEvents table from upto after n) = VersionAnswer.NewestEvents (newest_events_at h table from upto after n)
 answer_of h (Events table from upto after n) = VersionAnswer.Events (events_at h table from upto after n)
 answer_of h (Ranges table from upto) = VersionAnswer.Ranges (ranges_at h table from upto)
 answer_of h (Collect table g) = VersionAnswer.Collect

@@ -7,7 +7,7 @@ use Rattle.range_tombstones.specs.Intervals.{is_between}
 use Rattle.fact_model.specs.Facts.{Fact, Version, date, later, touches}
 use Rattle.fact_model.specs.Ordered.{insert_by, ordered}
 use Rattle.fact_model.specs.Listed.{is_point, key_of, point_cmp, date_cmp}
-use Rattle.version_store.specs.Tables.{Bytes, ByteFact, bytes_cmp, table_of}
+use Rattle.version_store.specs.Tables.{Bytes, ByteFact, bytes_cmp, same_key, table_of}
 use Rattle.version_store.specs.declared.listings.Listing.{Listing}
 use Rattle.version_store.specs.declared.listings.Listing.TheVariants.{Puts, Points, Ranges}
 
@@ -78,3 +78,22 @@ seen_item k (Some v) = Entry.Put k v.at v.value ∷ []
 -- a collection leaves the entry as it is: another table's, or a later one
 abbrev pub stays : ℕ → Time → Entry → Bool
 stays id g e = not (is_of id e) || time_lt g (date (fact_of e))
+
+-- ---- the first of each key
+
+abbrev pub is_same : {X : Type 0} → (X → X → Bool) → Option X → X → Bool
+is_same same None x = false
+is_same same (Some k) x = same k x
+
+-- the elements that aren't the same as the last one kept
+abbrev pub firsts : {X : Type 0} → (X → X → Bool) → Option X → List X → List X
+firsts same k [] = []
+firsts same k (x ∷ xs) = cond (is_same same k x) (firsts same k xs) (x ∷ firsts same (Some x) xs)
+
+-- the last element kept
+abbrev pub last_of : {X : Type 0} → Option X → List X → Option X
+last_of k [] = k
+last_of k (x ∷ xs) = last_of (Some x) xs
+
+abbrev pub entries_same : Entry → Entry → Bool
+entries_same d e = same_key (fact_of d) (fact_of e)

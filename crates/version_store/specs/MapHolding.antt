@@ -1,12 +1,13 @@
 -- What a map of versions stands for.
-use Rattle.std.specs.Prelude.{◌≡◌, ℕ, false, List, [], ◌++◌, Option, Some, None}
+use Rattle.std.specs.Prelude.{◌≡◌, ℕ, List, [], ◌++◌, Option, Some, None}
 use Rattle.std.specs.BTreeMap.{is_at}
 use Rattle.std.specs.Map.{lookup}
 use Rattle.std.specs.Ordering.{nat_cmp}
 use Rattle.mvcc_keys.specs.Times.{Time, zero_time}
 use Rattle.range_tombstones.specs.Ranges.{ranges_after}
-use Rattle.fact_model.specs.Facts.{AllIn, Has, IsApart, date}
-use Rattle.fact_model.specs.Listed.{is_point}
+use Rattle.fact_model.specs.Facts.{IsApart}
+use Rattle.fact_model.specs.Listings.{RangesDiffer}
+use Rattle.list_laws.specs.Members.{AllIn}
 use Rattle.fact_model.specs.Scans.{kept}
 use Rattle.version_store.specs.Tables.{ByteFact, Tables, bytes_cmp}
 use Rattle.version_store.specs.Rows.{AllNewestFirst, KeysAscend, map_facts, range_facts, trimmed_rows}
@@ -24,10 +25,6 @@ held_threshold (Some t) = t.threshold
 abbrev pub RowsNewestFirst : Option TableVersions → Type 0
 RowsNewestFirst None = Unit {0}
 RowsNewestFirst (Some t) = AllNewestFirst t.rows.entries
-
--- no two range deletions have one date
-pub record RangesDiffer (facts : List ByteFact) : Type 0 where
-  pub differ : (f g : ByteFact) → Has f facts → Has g facts → is_point f ≡ false → is_point g ≡ false → date f ≡ date g → f ≡ g
 
 -- a table has just the facts that are kept of its history, and its threshold
 pub record KeepsTable (table : Option TableVersions) (threshold : Time) (facts : List ByteFact) : Type 0 where

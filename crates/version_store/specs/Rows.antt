@@ -6,16 +6,19 @@ use Rattle.std.specs.Borrow.{Bor}
 use Rattle.std.specs.BTreeMap.{is_at}
 use Rattle.std.specs.List.Sorted.{IsStrictlySortedBy}
 use Rattle.std.specs.Map.{lookup}
+use Rattle.std.specs.Option.{option_to_list}
 use Rattle.std.specs.Ordering.{is_le, is_lt}
 use Rattle.mvcc_keys.specs.Codes.{mvcc_cmp}
 use Rattle.range_tombstones.specs.declared.upto.Upto.{Upto}
 use Rattle.range_tombstones.specs.Intervals.{is_between}
 use Rattle.mvcc_keys.specs.Times.{Time, time_le, time_lt}
 use Rattle.mvcc_keys.specs.declared.entries.Entry.{Entry}
-use Rattle.range_tombstones.specs.Ranges.{RangeDeletion, newest_cover}
+use Rattle.range_tombstones.specs.declared.deletion.RangeDeletion.{RangeDeletion}
+use Rattle.range_tombstones.specs.Ranges.{newest_cover}
 use Rattle.fact_model.specs.Facts.{Fact}
 use Rattle.fact_model.specs.Listed.{key_of}
 use Rattle.fact_model.specs.Facts as facts
+use Rattle.list_laws.specs.Members as members
 use Rattle.version_store.specs.Tables.{Bytes, ByteFact, bytes_cmp, entries_of}
 use Rattle.version_store.specs.Lists.{seen_item}
 use Rattle.version_store.specs.declared.row.Version.{Version}
@@ -102,12 +105,29 @@ unfoldable pub count_left : Time → Option Time → List Version → ℕ
 count_left g cover [] = 0
 count_left g cover (v ∷ vs) = cond (time_lt g v.at) (1 + count_left g cover vs) (cond (shows v.value (is_hidden v.at cover)) 1 0)
 
+-- ---- places
+
+-- a key and a date come after a place
+abbrev pub is_after : Option (Bytes × Time) → Bytes → Time → Bool
+is_after None key at = true
+is_after (Some place) key at = is_lt (mvcc_cmp place.0 place.1 key at)
+
 -- ---- all rows
 
 -- the puts that the rows show as of t
 unfoldable pub hits : Time → List RangeDeletion → List (Vec ℕ × List Version) → List Entry
 hits t rs [] = []
 hits t rs (e ∷ es) = seen_item e.0.items (row_shown (first_upto t e.1) (newest_cover e.0.items t rs)) ++ hits t rs es
+
+-- the put that a row shows, where it comes after a place
+abbrev pub seen_past : Option (Bytes × Time) → Bytes → Option (facts.Version Bytes) → List Entry
+seen_past place k None = []
+seen_past place k (Some v) = cond (is_after place k v.at) (Entry.Put k v.at v.value ∷ []) []
+
+-- the puts that the rows show as of t and that come after a place
+unfoldable pub hits_past : Option (Bytes × Time) → Time → List RangeDeletion → List (Vec ℕ × List Version) → List Entry
+hits_past place t rs [] = []
+hits_past place t rs (e ∷ es) = seen_past place e.0.items (row_shown (first_upto t e.1) (newest_cover e.0.items t rs)) ++ hits_past place t rs es
 
 abbrev pub with_row : Vec ℕ → List Version → List (Vec ℕ × List Version) → List (Vec ℕ × List Version)
 with_row k [] es = es
@@ -131,11 +151,6 @@ unfoldable pub events_in : (Bytes → Time → Bool) → List (Vec ℕ × List V
 events_in p [] = []
 events_in p (e ∷ es) = row_events p e.0.items e.1 ++ events_in p es
 
--- a key and a date come after a place
-abbrev pub is_after : Option (Bytes × Time) → Bytes → Time → Bool
-is_after None key at = true
-is_after (Some place) key at = is_lt (mvcc_cmp place.0 place.1 key at)
-
 abbrev pub is_event : Time → Upto → Option (Bytes × Time) → Bytes → Time → Bool
 is_event from upto place key at = is_between from upto at && is_after place key at
 
@@ -143,6 +158,15 @@ is_event from upto place key at = is_between from upto at && is_after place key 
 abbrev pub start_of : Option (Bytes × Time) → Bytes
 start_of None = []
 start_of (Some place) = place.0
+
+-- the first version of an interval
+unfoldable pub first_between : Time → Upto → List Version → Option Version
+first_between from upto [] = None
+first_between from upto (v ∷ vs) = cond (is_between from upto v.at) (Some v) (first_between from upto vs)
+
+-- of each row the newest version of an interval alone
+abbrev pub newest_rows : Time → Upto → List (Vec ℕ × List Version) → List (Vec ℕ × List Version)
+newest_rows from upto es = map (λ (e : Vec ℕ × List Version). (e.0, option_to_list (first_between from upto e.1))) es
 
 -- the versions of a key, none where it has no row
 abbrev pub versions_in : Option (List Version) → List Version
@@ -165,4 +189,4 @@ pub record IsInserted {X : Type 0} (x : X) (xs ys : List X) : Type 0 where
 -- a fact more among those of rows, and rows that stay newest first where no fact of its key has its date
 pub record IsRowAdded (f : ByteFact) (es new : List (Vec ℕ × List Version)) : Type 0 where
   pub put : IsInserted f (map_facts es) (map_facts new)
-  pub first : AllNewestFirst es → ((g : ByteFact) → facts.Has g (map_facts es) → facts.touches bytes_cmp (key_of f) g ≡ true → facts.date g ≡ facts.date f → ⊥) → AllNewestFirst new
+  pub first : AllNewestFirst es → ((g : ByteFact) → members.Has g (map_facts es) → facts.touches bytes_cmp (key_of f) g ≡ true → facts.date g ≡ facts.date f → ⊥) → AllNewestFirst new

@@ -1,16 +1,18 @@
 -- The facts of each table in bytes, and what the calls of a store mean over them.
-use Rattle.std.specs.Prelude.{◌≡◌, ◌≢◌, ℕ, Bool, true, false, ◌&&◌, ◌==◌, cond, List, [], ◌∷◌, ◌++◌, map, take, filter, Option, Some, None, option_map, Result, Ok, Err}
+use Rattle.std.specs.Prelude.{◌≡◌, ◌≢◌, ℕ, Bool, true, false, not, ◌&&◌, ◌==◌, cond, List, [], ◌∷◌, ◌++◌, map, take, filter, Option, Some, None, option_map, Result, Ok, Err}
 use Rattle.std.specs.declared.cmp.Ordering.{Ordering}
-use Rattle.std.specs.Ordering.{nat_cmp, is_lt}
+use Rattle.std.specs.List.{list_any}
+use Rattle.std.specs.Ordering.{nat_cmp, is_eq, is_lt}
 use Rattle.std.specs.Cmp.Lexicographic.{slice_cmp}
 use Rattle.mvcc_keys.specs.Times.{Time, zero_time, time_lt}
 use Rattle.mvcc_keys.specs.Codes.{mvcc_cmp}
+use Rattle.list_laws.specs.Members.{Has}
 use Rattle.mvcc_keys.specs.declared.entries.Entry.{Entry}
 use Rattle.key_encoding.specs.Reading.{read_uvarint}
 use Rattle.key_encoding.specs.declared.fault.KeyFault.{KeyFault}
 use Rattle.range_tombstones.specs.declared.upto.Upto.{Upto}
 use Rattle.range_tombstones.specs.Intervals.{is_between}
-use Rattle.fact_model.specs.Facts.{Fact, date, touches, Has, Version, value}
+use Rattle.fact_model.specs.Facts.{Fact, date, touches, Version, value}
 use Rattle.fact_model.specs.Scans.{image}
 use Rattle.fact_model.specs.Listed.{is_point, key_of, points, ranges}
 
@@ -75,6 +77,20 @@ pub record MayAdd (h : Tables) (id : ℕ) (f : ByteFact) : Type 0 where
   pub fresh : (k : Bytes) (g : ByteFact) → Has g (h.facts id) → touches bytes_cmp k g ≡ true → touches bytes_cmp k f ≡ true → date g ≢ date f
   pub other_range : (g : ByteFact) → Has g (h.facts id) → is_point g ≡ false → is_point f ≡ false → date g ≢ date f
 
+-- ---- the newest of each key
+
+-- two puts or deletions have one key
+abbrev pub same_key : ByteFact → ByteFact → Bool
+same_key f g = is_eq (bytes_cmp (key_of f) (key_of g))
+
+-- none of some puts and deletions has the key of f and a later date
+abbrev pub is_newest : List ByteFact → ByteFact → Bool
+is_newest fs f = not (list_any (λ g. same_key g f && time_lt (date f) (date g)) fs)
+
+-- those of some puts and deletions that are the newest of their keys
+unfoldable pub newest_points : List ByteFact → List ByteFact
+newest_points fs = filter (is_newest fs) fs
+
 -- ---- what is answered
 
 -- the value of a key of a table as of t
@@ -93,6 +109,14 @@ is_past (Some place) f = is_lt (mvcc_cmp place.0 place.1 (key_of f) (date f))
 -- the first n puts and deletions of an interval after a place
 abbrev pub events_at : Tables → ℕ → Time → Upto → Option (Bytes × Time) → ℕ → List Entry
 events_at h id from upto place n = entries_of (take n (filter (is_past place) (points bytes_cmp (is_between from upto) (h.facts id))))
+
+-- the first n of the visible puts as of t that come after a place
+abbrev pub scan_after_at : Tables → ℕ → Time → Option (Bytes × Time) → ℕ → List Entry
+scan_after_at h id t place n = entries_of (take n (filter (is_past place) (image bytes_cmp t (h.facts id))))
+
+-- the first n, after a place, of the puts and deletions of an interval that are the newest of their keys
+abbrev pub newest_events_at : Tables → ℕ → Time → Upto → Option (Bytes × Time) → ℕ → List Entry
+newest_events_at h id from upto place n = entries_of (take n (filter (is_past place) (newest_points (points bytes_cmp (is_between from upto) (h.facts id)))))
 
 -- the range deletions of an interval, by date
 abbrev pub ranges_at : Tables → ℕ → Time → Upto → List Entry

@@ -7,7 +7,7 @@ ghost use Rattle.version_store.specs.Holding.{Holds, threshold_in};
 use crate::entries::{deletion_of, put_of, range_of, table_of};
 use crate::listings::{Listing, listed};
 use crate::versions::Versions;
-use crate::walk::{collected, events_of, scan_of, value_of};
+use crate::walk::{collected, events_of, newest_events_of, scan_after_of, scan_of, value_of};
 use mvcc_keys::{Blob, Entry, Hlc, Memory};
 use range_tombstones::Upto;
 use std::alloc::Global;
@@ -100,6 +100,17 @@ impl Versions for FactList {
         scan_of(self.alloc, self.facts.as_slice(), u64::from(table), t)
     }
 
+    fn scan_after(
+        &self,
+        table: u32,
+        t: Hlc,
+        after: &Option<(Blob, Hlc)>,
+        n: usize,
+    ) -> Result<Vec<Entry>, Memory> {
+        let facts = self.facts.as_slice();
+        scan_after_of(self.alloc, facts, u64::from(table), t, after, n)
+    }
+
     fn events(
         &self,
         table: u32,
@@ -110,6 +121,18 @@ impl Versions for FactList {
     ) -> Result<Vec<Entry>, Memory> {
         let facts = self.facts.as_slice();
         events_of(self.alloc, facts, u64::from(table), from, upto, after, n)
+    }
+
+    fn newest_events(
+        &self,
+        table: u32,
+        from: Hlc,
+        upto: Upto,
+        after: &Option<(Blob, Hlc)>,
+        n: usize,
+    ) -> Result<Vec<Entry>, Memory> {
+        let facts = self.facts.as_slice();
+        newest_events_of(self.alloc, facts, u64::from(table), from, upto, after, n)
     }
 
     fn ranges(&self, table: u32, from: Hlc, upto: Upto) -> Result<Vec<Entry>, Memory> {

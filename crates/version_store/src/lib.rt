@@ -7,6 +7,7 @@ mod fact_list;
 mod laws;
 mod listings;
 mod mvcc_map;
+mod newest;
 mod replaying;
 mod row;
 mod rows;
@@ -20,6 +21,3 @@ pub use laws::keys_are_ordered;
 pub use mvcc_map::MvccMap;
 pub use replaying::replay;
 pub use versions::Versions;
-
-#[cfg(test)]
-mod tests;

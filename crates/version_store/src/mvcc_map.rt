@@ -6,7 +6,7 @@ ghost use Rattle.version_store.specs.MapHolding.{IsMade, KeepsAll};
 
 use crate::entries::table_of;
 use crate::row::Version;
-use crate::rows::{add_version, events_from, scan_rows, value_in};
+use crate::rows::{add_version, events_from, newest_from, scan_from, scan_rows, value_in};
 use crate::table_versions::{TableVersions, add_range, collect_table};
 use crate::versions::Versions;
 use mvcc_keys::{Blob, Entry, Hlc, Memory};
@@ -107,6 +107,23 @@ impl Versions for MvccMap {
         }
     }
 
+    fn scan_after(
+        &self,
+        table: u32,
+        t: Hlc,
+        after: &Option<(Blob, Hlc)>,
+        n: usize,
+    ) -> Result<Vec<Entry>, Memory> {
+        match self.tables.get(&u64::from(table)) {
+            Some(table) => {
+                let mut seen = scan_from(self.alloc, &table.rows, &table.ranges, t, after, n)?;
+                seen.truncate(n);
+                Ok(seen)
+            }
+            None => Ok(Vec::new(self.alloc)),
+        }
+    }
+
     fn events(
         &self,
         table: u32,
@@ -118,6 +135,24 @@ impl Versions for MvccMap {
         match self.tables.get(&u64::from(table)) {
             Some(table) => {
                 let mut seen = events_from(self.alloc, &table.rows, from, &upto, after, n)?;
+                seen.truncate(n);
+                Ok(seen)
+            }
+            None => Ok(Vec::new(self.alloc)),
+        }
+    }
+
+    fn newest_events(
+        &self,
+        table: u32,
+        from: Hlc,
+        upto: Upto,
+        after: &Option<(Blob, Hlc)>,
+        n: usize,
+    ) -> Result<Vec<Entry>, Memory> {
+        match self.tables.get(&u64::from(table)) {
+            Some(table) => {
+                let mut seen = newest_from(self.alloc, &table.rows, from, &upto, after, n)?;
                 seen.truncate(n);
                 Ok(seen)
             }

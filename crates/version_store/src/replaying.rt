@@ -48,6 +48,10 @@ fn play<V: Versions>(
             let seen = store.scan_as_of(*table, *t)?;
             Ok(VersionAnswer::ScanAsOf(Items::from_vec(seen)))
         }
+        VersionCall::ScanAfter { table, t, after, n } => {
+            let seen = store.scan_after(*table, *t, after, *n)?;
+            Ok(VersionAnswer::ScanAfter(Items::from_vec(seen)))
+        }
         VersionCall::Events {
             table,
             from,
@@ -57,6 +61,16 @@ fn play<V: Versions>(
         } => {
             let seen = store.events(*table, *from, *upto, after, *n)?;
             Ok(VersionAnswer::Events(Items::from_vec(seen)))
+        }
+        VersionCall::NewestEvents {
+            table,
+            from,
+            upto,
+            after,
+            n,
+        } => {
+            let seen = store.newest_events(*table, *from, *upto, after, *n)?;
+            Ok(VersionAnswer::NewestEvents(Items::from_vec(seen)))
         }
         VersionCall::Ranges { table, from, upto } => {
             let seen = store.ranges(*table, *from, *upto)?;

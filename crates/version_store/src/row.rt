@@ -1,8 +1,10 @@
 //! The versions of a key.
 ghost use Rattle.std.specs.Prelude.{◌≡◌, ◌≤◌, [], OnOk, OnErr, length, option_map, ◌==◌};
-ghost use Rattle.version_store.specs.Rows.{count_left, count_newer, first_upto, is_hidden, shows, trimmed, with_version};
+ghost use Rattle.range_tombstones.specs.Intervals.{is_between};
+ghost use Rattle.version_store.specs.Rows.{count_left, count_newer, first_between, first_upto, is_hidden, shows, trimmed, with_version};
 
 use mvcc_keys::{Blob, Hlc, Memory};
+use range_tombstones::Upto;
 use std::alloc::Global;
 use std::marker::Model;
 
@@ -74,12 +76,32 @@ fn count_left(versions: &[Version], g: Hlc, cover: Option<Hlc>) -> usize
     versions.len()
 }
 
+/// Whether a date is in an interval.
+pub fn is_between(from: Hlc, upto: &Upto, at: Hlc) -> bool
+    ensures { result ≡ is_between from upto.now at }
+{
+    from < at && upto.holds(at)
+}
+
 #[tactic(auto, unfolding(crate::specs::Rows::first_upto))]
 fn first_among<'a>(versions: &'a [Version], t: Hlc) -> Option<&'a Version>
     ensures { option_map (λ v. v.now) result ≡ first_upto t versions.now }
 {
     for version in versions.iter() {
         if version.at <= t {
+            return Some(version);
+        }
+    }
+    None
+}
+
+/// The newest version of an interval, of versions that stand newest first.
+#[tactic(auto, unfolding(crate::specs::Rows::first_between))]
+pub fn first_between<'a>(versions: &'a [Version], from: Hlc, upto: &Upto) -> Option<&'a Version>
+    ensures { option_map (λ v. v.now) result ≡ first_between from upto.now versions.now }
+{
+    for version in versions.iter() {
+        if is_between(from, upto, version.at) {
             return Some(version);
         }
     }

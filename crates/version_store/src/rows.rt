@@ -1,12 +1,13 @@
 //! Rows of versions by key.
+ghost use Rattle.std.specs.Option.{option_to_list};
 ghost use Rattle.std.specs.Prelude.{◌≡◌, ◌++◌, ◌∷◌, [], not, IfOk, OnOk, OnErr, length, take, option_map, ◌==◌};
 ghost use Rattle.range_tombstones.specs.Ranges.{newest_cover};
 ghost use Rattle.fact_model.specs.Facts.{Version as FactVersion};
 ghost use Rattle.version_store.specs.Tables.{entry_of};
 ghost use Rattle.version_store.specs.Lists.{seen_item};
-ghost use Rattle.version_store.specs.Rows.{events_in, first_upto, hits, is_event, row_at, row_events, row_shown, rows_from, start_of, trimmed, trimmed_rows, version_fact, version_seen, IsRowAdded, KeysAscend};
+ghost use Rattle.version_store.specs.Rows.{events_in, first_between, first_upto, hits, hits_past, is_after, is_event, newest_rows, row_at, row_events, row_shown, rows_from, seen_past, start_of, trimmed, trimmed_rows, version_fact, version_seen, IsRowAdded, KeysAscend};
 
-use crate::row::{Row, Version, is_hidden};
+use crate::row::{Row, Version, first_between, is_between, is_hidden};
 use mvcc_keys::{Blob, Entry, Hlc, Memory, cmp_mvcc};
 use range_tombstones::{Fragments, Upto};
 use std::alloc::Global;
@@ -50,6 +51,20 @@ pub fn value_in<'a>(
     }
 }
 
+fn add_put(
+    alloc: Global,
+    seen: &mut Vec<Entry>,
+    key: &[u8],
+    at: Hlc,
+    value: &[u8],
+) -> Result<(), Memory>
+    ensures { OnOk result (seen.new.items ≡ seen.old.items ++ Entry.Put key.now at value.now ∷ []) }
+{
+    let key = Blob::copy_of(alloc, key)?;
+    let value = Blob::copy_of(alloc, value)?;
+    seen.push(Entry::Put { key, at, value }).map_err(|_| Memory)
+}
+
 /// Appends the put that a row shows as of a time.
 fn add_row(
     alloc: Global,
@@ -63,11 +78,7 @@ fn add_row(
 {
     match row_value(row, ranges, key, t) {
         None => Ok(()),
-        Some((value, at)) => {
-            let key = Blob::copy_of(alloc, key)?;
-            let value = Blob::copy_of(alloc, value)?;
-            seen.push(Entry::Put { key, at, value }).map_err(|_| Memory)
-        }
+        Some((value, at)) => add_put(alloc, seen, key, at, value),
     }
 }
 
@@ -89,16 +100,79 @@ pub fn scan_rows(
     Ok(seen)
 }
 
+// ---- places
+
+/// Whether a key and a date come after a place.
+fn is_after(place: &Option<(Blob, Hlc)>, key: &[u8], at: Hlc) -> bool
+    ensures { result ≡ is_after place.now key.now at }
+{
+    match place {
+        None => true,
+        Some((past, date)) => cmp_mvcc(past.as_slice(), *date, key, at).is_lt(),
+    }
+}
+
+fn start_key(alloc: Global, place: &Option<(Blob, Hlc)>) -> Result<Vec<u8>, Memory>
+    ensures { IfOk result (λ key. key.items ≡ start_of place.now) }
+{
+    match place {
+        Some((key, _)) => Ok(key.copy(alloc)?.into_vec()),
+        None => Ok(Vec::new(alloc)),
+    }
+}
+
+/// Appends the put that a row shows as of a time, where it comes after a place.
+fn add_row_after(
+    alloc: Global,
+    seen: &mut Vec<Entry>,
+    key: &[u8],
+    row: &Row,
+    ranges: &Fragments,
+    t: Hlc,
+    place: &Option<(Blob, Hlc)>,
+) -> Result<(), Memory>
+    ensures { OnOk result (seen.new.items ≡ seen.old.items ++ seen_past place.now key.now (row_shown (first_upto t row.now) (newest_cover key.now t ranges.now))) }
+{
+    let Some((value, at)) = row_value(row, ranges, key, t) else {
+        return Ok(());
+    };
+    if !is_after(place, key, at) {
+        return Ok(());
+    }
+    add_put(alloc, seen, key, at, value)
+}
+
+/// At least the first `n` of the puts that are visible as of a time and come after a place.
+#[tactic(auto, unfolding(crate::specs::Rows::hits_past))]
+pub fn scan_from(
+    alloc: Global,
+    rows: &BTreeMap<Vec<u8>, Row>,
+    ranges: &Fragments,
+    t: Hlc,
+    place: &Option<(Blob, Hlc)>,
+    n: usize,
+) -> Result<Vec<Entry>, Memory>
+    ensures seen { IfOk result (λ seen. take n seen.items ≡ take n (hits_past place.now t ranges.now (rows_from (start_of place.now) rows.now.entries))) }
+    ensures ordered { KeysAscend rows.now.entries }
+{
+    let _ = rows.len();
+    let start = start_key(alloc, place)?;
+    let mut seen = Vec::new(alloc);
+    for (key, row) in rows.range(start..) {
+        if seen.len() >= n {
+            return Ok(seen);
+        }
+        add_row_after(alloc, &mut seen, key.as_slice(), row, ranges, t, place)?;
+    }
+    Ok(seen)
+}
+
 // ---- events
 
 fn is_event(key: &[u8], at: Hlc, from: Hlc, upto: &Upto, place: &Option<(Blob, Hlc)>) -> bool
     ensures { result ≡ is_event from upto.now place.now key.now at }
 {
-    let between = from < at && upto.holds(at);
-    match place {
-        None => between,
-        Some((past, date)) => between && cmp_mvcc(past.as_slice(), *date, key, at).is_lt(),
-    }
+    is_between(from, upto, at) && is_after(place, key, at)
 }
 
 /// The entry of a version.
@@ -151,15 +225,6 @@ fn add_events(
     Ok(())
 }
 
-fn start_key(alloc: Global, place: &Option<(Blob, Hlc)>) -> Result<Vec<u8>, Memory>
-    ensures { IfOk result (λ key. key.items ≡ start_of place.now) }
-{
-    match place {
-        Some((key, _)) => Ok(key.copy(alloc)?.into_vec()),
-        None => Ok(Vec::new(alloc)),
-    }
-}
-
 /// At least the first `n` puts and deletions of an interval after a place, row by row.
 #[tactic(auto, unfolding(crate::specs::Rows::events_in))]
 pub fn events_from(
@@ -181,6 +246,74 @@ pub fn events_from(
             return Ok(seen);
         }
         add_events(
+            alloc,
+            &mut seen,
+            key.as_slice(),
+            row.as_slice(),
+            from,
+            upto,
+            place,
+        )?;
+    }
+    Ok(seen)
+}
+
+/// Appends a version's entry, where it comes after a place.
+fn add_after(
+    alloc: Global,
+    seen: &mut Vec<Entry>,
+    key: &[u8],
+    version: &Version,
+    place: &Option<(Blob, Hlc)>,
+) -> Result<(), Memory>
+    ensures { OnOk result (seen.new.items ≡ seen.old.items ++ row_events (is_after place.now) key.now (version.now ∷ [])) }
+{
+    if !is_after(place, key, version.at) {
+        return Ok(());
+    }
+    let entry = entry_of(alloc, key, version)?;
+    seen.push(entry).map_err(|_| Memory)
+}
+
+/// Appends the entry of a row's newest version of an interval, where it comes after a place.
+fn add_newest(
+    alloc: Global,
+    seen: &mut Vec<Entry>,
+    key: &[u8],
+    versions: &[Version],
+    from: Hlc,
+    upto: &Upto,
+    place: &Option<(Blob, Hlc)>,
+) -> Result<(), Memory>
+    ensures { OnOk result (seen.new.items ≡ seen.old.items ++ row_events (is_after place.now) key.now (option_to_list (first_between from upto.now versions.now))) }
+{
+    match first_between(versions, from, upto) {
+        Some(version) => add_after(alloc, seen, key, version, place),
+        None => Ok(()),
+    }
+}
+
+/// At least the first `n`, after a place, of the newest versions of the rows in an interval.
+#[tactic(auto, unfolding(crate::specs::Rows::events_in))]
+pub fn newest_from(
+    alloc: Global,
+    rows: &BTreeMap<Vec<u8>, Row>,
+    from: Hlc,
+    upto: &Upto,
+    place: &Option<(Blob, Hlc)>,
+    n: usize,
+) -> Result<Vec<Entry>, Memory>
+    ensures seen { IfOk result (λ seen. take n seen.items ≡ take n (events_in (is_after place.now) (newest_rows from upto.now (rows_from (start_of place.now) rows.now.entries)))) }
+    ensures ordered { KeysAscend rows.now.entries }
+{
+    let _ = rows.len();
+    let start = start_key(alloc, place)?;
+    let mut seen = Vec::new(alloc);
+    for (key, row) in rows.range(start..) {
+        if seen.len() >= n {
+            return Ok(seen);
+        }
+        add_newest(
             alloc,
             &mut seen,
             key.as_slice(),

@@ -2,7 +2,7 @@
 ghost use Rattle.std.specs.Prelude.{◌≡◌, ℕ, true, Some, IfOk, OnOk, OnErr, option_map};
 ghost use Rattle.mvcc_keys.specs.Times.{time_le};
 ghost use Rattle.fact_model.specs.Facts.{Fact, IsApart};
-ghost use Rattle.version_store.specs.Tables.{Tables, bytes_cmp, table_of, with_fact, raised, MayAdd, value_at, scan_at, events_at, ranges_at};
+ghost use Rattle.version_store.specs.Tables.{Tables, bytes_cmp, table_of, with_fact, raised, MayAdd, value_at, scan_at, scan_after_at, events_at, newest_events_at, ranges_at};
 
 use mvcc_keys::{Blob, Entry, Hlc, Memory};
 use range_tombstones::Upto;
@@ -34,6 +34,17 @@ pub trait Versions {
     fn scan_as_of(&self, table: u32, t: Hlc) -> Result<Vec<Entry>, Memory>
         ensures { IfOk result (λ seen. (h : Tables) → stands self.now h → time_le (h.threshold table) t ≡ true → seen.items ≡ scan_at h table t) };
 
+    /// The first `n` of the puts visible as of a time from the table's threshold on that come
+    /// after a place in the order of events, by key.
+    fn scan_after(
+        &self,
+        table: u32,
+        t: Hlc,
+        after: &Option<(Blob, Hlc)>,
+        n: usize,
+    ) -> Result<Vec<Entry>, Memory>
+        ensures { IfOk result (λ seen. (h : Tables) → stands self.now h → time_le (h.threshold table) t ≡ true → seen.items ≡ scan_after_at h table t after.now n) };
+
     /// The first `n` puts and deletions after a place, by key and newest first, of those dated
     /// after `from` and within `upto`, where `from` isn't before the threshold.
     fn events(
@@ -45,6 +56,18 @@ pub trait Versions {
         n: usize,
     ) -> Result<Vec<Entry>, Memory>
         ensures { IfOk result (λ seen. (h : Tables) → stands self.now h → time_le (h.threshold table) from ≡ true → seen.items ≡ events_at h table from upto after.now n) };
+
+    /// The first `n`, after a place, of those puts and deletions dated after `from` and within
+    /// `upto` that are the newest of their keys, by key, where `from` isn't before the threshold.
+    fn newest_events(
+        &self,
+        table: u32,
+        from: Hlc,
+        upto: Upto,
+        after: &Option<(Blob, Hlc)>,
+        n: usize,
+    ) -> Result<Vec<Entry>, Memory>
+        ensures { IfOk result (λ seen. (h : Tables) → stands self.now h → time_le (h.threshold table) from ≡ true → seen.items ≡ newest_events_at h table from upto after.now n) };
 
     /// The range deletions dated after `from` and within `upto`, by date, where `from` isn't
     /// before the threshold.

@@ -1,13 +1,14 @@
 //! What a list of facts shows, found by walks over the whole list.
-ghost use Rattle.std.specs.Prelude.{◌≡◌, ◌++◌, ◌∷◌, [], IfOk, OnOk, option_map, take, filter};
+ghost use Rattle.std.specs.Prelude.{◌≡◌, ◌++◌, ◌∷◌, [], None, IfOk, OnOk, option_map, take, filter};
 ghost use Rattle.fact_model.specs.Facts.{newest, value, Version};
 ghost use Rattle.fact_model.specs.Scans.{image};
 ghost use Rattle.version_store.specs.Tables.{bytes_cmp, entries_of, is_past};
-ghost use Rattle.version_store.specs.Lists.{fact_of, facts_of, of_table, listed, newest_step, seen_item, stays};
+ghost use Rattle.version_store.specs.Lists.{entries_same, fact_of, facts_of, firsts, of_table, listed, newest_step, seen_item, stays};
 ghost use Rattle.version_store.specs.declared.listings.Listing.TheVariants.{Points};
 
 use crate::entries::{copy_of, date_of, is_of, key_of, put_of, touches};
 use crate::listings::{Listing, listed};
+use crate::newest::newest_among;
 use mvcc_keys::{Blob, Entry, Hlc, Memory, cmp_mvcc};
 use range_tombstones::Upto;
 use std::alloc::Global;
@@ -107,6 +108,48 @@ fn is_past(place: &Option<(Blob, Hlc)>, fact: &Entry) -> bool
     }
 }
 
+/// The first `n` of some puts and deletions that come after a place.
+fn first_after(seen: Vec<Entry>, place: &Option<(Blob, Hlc)>, n: usize) -> Vec<Entry>
+    ensures { result.items ≡ take n (filter (λ e. is_past place.now (fact_of e)) seen.items) }
+{
+    let mut left = seen;
+    left.retain(|fact| is_past(place, fact));
+    left.truncate(n);
+    left
+}
+
+/// The first `n` of the puts that are visible as of t and come after a place.
+pub fn scan_after_of(
+    alloc: Global,
+    facts: &[Entry],
+    table: u64,
+    t: Hlc,
+    place: &Option<(Blob, Hlc)>,
+    n: usize,
+) -> Result<Vec<Entry>, Memory>
+    ensures { IfOk result (λ seen. seen.items ≡ take n (filter (λ e. is_past place.now (fact_of e)) (entries_of (image bytes_cmp t (facts_of (of_table table facts.now)))))) }
+{
+    let seen = scan_of(alloc, facts, table, t)?;
+    Ok(first_after(seen, place, n))
+}
+
+/// The first `n`, after a place, of the newest puts and deletions of each key in an interval.
+pub fn newest_events_of(
+    alloc: Global,
+    facts: &[Entry],
+    table: u64,
+    from: Hlc,
+    upto: Upto,
+    place: &Option<(Blob, Hlc)>,
+    n: usize,
+) -> Result<Vec<Entry>, Memory>
+    ensures { IfOk result (λ seen. seen.items ≡ take n (filter (λ e. is_past place.now (fact_of e)) (firsts entries_same None (listed (Points from upto) table facts.now)))) }
+{
+    let points = listed(alloc, facts, table, &Listing::Points { from, upto })?;
+    let newest = newest_among(alloc, points)?;
+    Ok(first_after(newest, place, n))
+}
+
 /// The first `n` puts and deletions of an interval after a place.
 pub fn events_of(
     alloc: Global,
@@ -119,10 +162,8 @@ pub fn events_of(
 ) -> Result<Vec<Entry>, Memory>
     ensures { IfOk result (λ seen. seen.items ≡ take n (filter (λ e. is_past place.now (fact_of e)) (listed (Points from upto) table facts.now))) }
 {
-    let mut seen = listed(alloc, facts, table, &Listing::Points { from, upto })?;
-    seen.retain(|fact| is_past(place, fact));
-    seen.truncate(n);
-    Ok(seen)
+    let seen = listed(alloc, facts, table, &Listing::Points { from, upto })?;
+    Ok(first_after(seen, place, n))
 }
 
 fn is_staying(fact: &Entry, table: u64, g: Hlc) -> bool

@@ -1,6 +1,6 @@
 use Rattle.std.proofs.Common.{◌∙◌, ap, sym, map}
 use Rattle.range_tombstones.specs.Pieces.{undated}
-use Rattle.range_tombstones.proofs.Lists.{on-err}
+use Rattle.list_laws.proofs.Results.{on-err}
 use Rattle.range_tombstones.proofs.PieceLaws.{undated-back}
 use Rattle.range_tombstones.proofs.changes.add_date.Goals as goal
 

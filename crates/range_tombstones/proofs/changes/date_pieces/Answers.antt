@@ -1,7 +1,8 @@
 use Rattle.std.proofs.Common.{◌∙◌, ap, sym, set}
 use Rattle.std.proofs.lemmas.List.{set-get_or}
 use Rattle.range_tombstones.specs.Pieces.{dated, PartlyDated}
-use Rattle.range_tombstones.proofs.Lists.{map-more, on-any}
+use Rattle.range_tombstones.proofs.Lists.{map-more}
+use Rattle.list_laws.proofs.Results.{on-any}
 use Rattle.range_tombstones.proofs.changes.date_pieces.Goals as goal
 
 pub returns-in_err-date_piece-clause-err : goal.returns-in_err-date_piece-clause-err

@@ -3,7 +3,8 @@ use Rattle.std.proofs.lemmas.List.Sorted.{IsPartitionPoint-from_clause}
 use Rattle.range_tombstones.specs.declared.piece.Piece.{Piece}
 use Rattle.range_tombstones.specs.Ranges.{bytes_le, bytes_lt}
 use Rattle.range_tombstones.specs.Pieces.{begins_before}
-use Rattle.range_tombstones.proofs.Lists.{front, back, filter-same, partitioned}
+use Rattle.range_tombstones.proofs.Lists.{front, back, partitioned}
+use Rattle.list_laws.proofs.Filters.{filter-same}
 use Rattle.range_tombstones.proofs.KeyLaws.{le-down, not-le}
 use Rattle.range_tombstones.proofs.pieces.count_begun.Goals as goal
 

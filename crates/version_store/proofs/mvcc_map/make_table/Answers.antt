@@ -1,5 +1,5 @@
 use Rattle.std.proofs.Common.{◌∙◌, sym}
-use Rattle.range_tombstones.proofs.Lists.{on-ok}
+use Rattle.list_laws.proofs.Results.{on-ok}
 use Rattle.version_store.proofs.MapHeld.{none-there, table-made}
 use Rattle.version_store.proofs.mvcc_map.make_table.Goals as goal
 

@@ -1,7 +1,7 @@
 use Rattle.std.proofs.Common.{◌∙◌, ap, sym, refl, Some}
 use Rattle.std.specs.Option.{option_copied_mut}
 use Rattle.std.proofs.lemmas.Map.Steps.{set_value_same}
-use Rattle.range_tombstones.proofs.Lists.{on-err, on-ok}
+use Rattle.list_laws.proofs.Results.{on-err, on-ok}
 use Rattle.version_store.proofs.RowPuts.{at_key, added-there, added-new}
 use Rattle.version_store.specs.Rows.{with_version}
 use Rattle.version_store.proofs.rows.add_version.Goals as goal

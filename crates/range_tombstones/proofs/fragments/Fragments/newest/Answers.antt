@@ -4,7 +4,7 @@ use Rattle.range_tombstones.specs.declared.piece.Piece.{Piece}
 use Rattle.range_tombstones.specs.Dates.{last_upto}
 use Rattle.range_tombstones.specs.Ranges.{newest_cover}
 use Rattle.range_tombstones.specs.Pieces.{dates_in, piece_at}
-use Rattle.range_tombstones.proofs.JoinLaws.{newest-at}
+use Rattle.range_tombstones.proofs.CoverLaws.{newest-at}
 use Rattle.range_tombstones.proofs.fragments.Fragments.newest.Goals as goal
 
 pub returns-in-Some : goal.returns-in-Some

@@ -1,6 +1,6 @@
 use Rattle.std.proofs.Common.{◌≡◌, ◌∙◌, ap, sym, refl}
 use Rattle.std.specs.Option.{option_copied_mut}
-use Rattle.range_tombstones.proofs.Lists.{ok-follows, err-follows}
+use Rattle.list_laws.proofs.Results.{ok-follows, err-follows}
 use Rattle.version_store.specs.Rows.{IsRowAdded, version_fact}
 use Rattle.version_store.specs.Tables.{Tables}
 use Rattle.version_store.proofs.MapHeld.{stays-kept, version-added}

@@ -1,7 +1,7 @@
 use Rattle.std.proofs.Common.{◌≡◌, ◌∙◌, ap, sym, refl, true, false}
 use Rattle.std.specs.Option.{option_copied_mut}
 use Rattle.range_tombstones.specs.Ranges.{bytes_lt, is_dated, range, with_range}
-use Rattle.range_tombstones.proofs.Lists.{ok-follows}
+use Rattle.list_laws.proofs.Results.{ok-follows}
 use Rattle.version_store.specs.Tables.{Tables}
 use Rattle.version_store.proofs.MapHeld.{range-added}
 use Rattle.version_store.proofs.mvcc_map.MvccMapVersions.delete_range.Goals as goal
