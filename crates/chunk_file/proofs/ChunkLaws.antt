@@ -7,7 +7,7 @@ use Rattle.std.proofs.lemmas.Bool.{cases_Bool}
 use Rattle.std.proofs.lemmas.Bool.Decides.{nat_tests}
 use Rattle.std.proofs.lemmas.List.{drop_at, take-append-drop}
 use Rattle.std.proofs.lemmas.Slice.Eq.{bytes_eq-Decides}
-use Rattle.key_encoding.specs.Coding.{AreBytes}
+use Rattle.list_laws.specs.Bytes.{AreBytes}
 use Rattle.key_encoding.specs.Spelling.{uvarint}
 use Rattle.key_encoding.specs.Reading.{read_uvarint}
 use Rattle.key_encoding.proofs.Answered.{ok_parts}
@@ -15,12 +15,14 @@ use Rattle.key_encoding.proofs.Grammars.{uvarint-found, uvarint-only}
 use Rattle.mvcc_keys.specs.declared.entries.Entry.{Entry}
 use Rattle.row_codec.specs.KeyReading.{◌>>=◌, or_at}
 use Rattle.row_codec.specs.declared.rows.Kind.{Kind}
-use Rattle.row_codec.proofs.KeyLaws.{some_is, bind-ok, or_at-ok, valued-some, bytes-after}
+use Rattle.row_codec.proofs.KeyLaws.{some_is, bind-ok, or_at-ok, valued-some}
 use Rattle.row_codec.proofs.KeyOrder.{both_true}
 use Rattle.chunk_file.specs.Entries.{IsStored, are_ordered, entries_code, entry_code, is_entry, listed, may_follow, read_entry}
 use Rattle.chunk_file.specs.Chunks.{IsChunk, IsSpelled, ChunksAreExact, a_count, chunk_bytes, chunk_mark, fault_of, head_code, if_met, next_entry, read_chunk, read_count, read_entries, read_mark, read_next, with_entry}
 use Rattle.chunk_file.specs.Held.{IsHead}
 use Rattle.chunk_file.proofs.EntryLaws.{entry-found, entry-only, listed-found}
+use Rattle.list_laws.proofs.Bytes.{bytes-after}
+use Rattle.list_laws.proofs.Places.{none-left_test}
 
 -- ---- one entry of a list
 
@@ -75,10 +77,6 @@ pub record AreRead (table : ℕ) (kinds : List Kind) (n : ℕ) (last : Option En
   pub stored : AllByRecursion IsStored es
   pub bytes : b ≡ entries_code es
 
-none_left : (b : List ℕ) → nat_eq (length b) 0 ≡ true → b ≡ []
-none_left [] e = refl
-none_left (x ∷ b) e = absurd (let w : suc (length b) ≡ 0 = grind (arith, nat_tests) in omega arith)
-
 one_more : (table : ℕ) (kinds : List Kind) (n : ℕ) (last : Option Entry) (b : List ℕ) (e : Entry) (r : List ℕ) (others es : List Entry)
     → (is_entry table kinds e ≡ true) × (may_follow last e ≡ true) → IsStored e × (b ≡ entry_code e ++ r) → AreRead table kinds n (Some e) r others → e ∷ others ≡ es → AreRead table kinds (suc n) last b es
 one_more table kinds n last b e r others es met first rest is = rw (← is) (record {
@@ -94,7 +92,7 @@ entries-only table kinds zero len last b es h e =
     elim (cases_Bool (nat_eq (length b) 0)) [
       | inl z ↦
           let is : [] ≡ es = entries_are [] es (rw z at e) in
-          rw (← is) (record { count = refl; each = tt; ordered = refl; stored = tt; bytes = none_left b z })
+          rw (← is) (record { count = refl; each = tt; ordered = refl; stored = tt; bytes = none-left_test b z })
       | inr f ↦ let e' = rw f at e in absurd (cc)
     ]
 entries-only table kinds (suc n) len last b es h e =

@@ -1,23 +1,22 @@
 -- Entries are read as they are written.
-use Rattle.std.proofs.Common.{◌≡◌, ℕ, zero, suc, ◌+◌, ◌<◌, ◌≤◌, ◌^◌, true, false, List, [], ◌∷◌, ◌++◌, length, take, drop, nat_eq, nat_le, Option, Some, None, Result, Ok, Err, inl, inr, arith, refl, sym, ap, ◌∙◌, append_assoc, length-append}
+use Rattle.std.proofs.Common.{◌≡◌, ℕ, zero, suc, ◌+◌, ◌<◌, ◌≤◌, ◌^◌, false, List, [], ◌∷◌, ◌++◌, length, nat_eq, Option, Some, None, inl, inr, arith, refl, sym, ap, ◌∙◌, append_assoc, length-append}
 use Rattle.std.specs.Prelude.{◌==◌}
 use Rattle.std.specs.Option.{option_map}
 use Rattle.std.specs.List.{AllByRecursion}
 use Rattle.std.proofs.lemmas.Bool.{cases_Bool}
 use Rattle.std.proofs.lemmas.Bool.Decides.{nat_tests}
-use Rattle.std.proofs.lemmas.List.{take_at, drop_at, take-append-drop, length-take-le}
-use Rattle.key_encoding.specs.Coding.{AreBytes}
-use Rattle.key_encoding.specs.Spelling.{uvarint}
-use Rattle.key_encoding.specs.Reading.{read_uvarint}
-use Rattle.key_encoding.specs.declared.fault.KeyFault.{KeyFault}
-use Rattle.key_encoding.proofs.Grammars.{uvarint-found, uvarint-only}
+use Rattle.list_laws.specs.Bytes.{AreBytes}
 use Rattle.mvcc_keys.specs.Times.{Time, IsTime}
 use Rattle.mvcc_keys.specs.Codes.{bytes64, bytes32, counter_bytes, mvcc_key, read_mvcc_key}
 use Rattle.mvcc_keys.specs.declared.entries.Entry.{Entry}
 use Rattle.mvcc_keys.proofs.CodeLaws.{mvcc_keys-exact}
-use Rattle.row_codec.specs.RowValues.{sized, cut, read_sized}
-use Rattle.row_codec.proofs.KeyLaws.{pair_parts, some_is, bytes-after}
-use Rattle.chunk_file.specs.Entries.{◌>>=◌, IsStored, dated, entries_code, entry_code, listed, read_dated, read_del, read_entry, read_put, read_range}
+use Rattle.row_codec.specs.RowValues.{sized, read_sized}
+use Rattle.row_codec.proofs.KeyLaws.{pair_parts, some_is}
+use Rattle.row_codec.proofs.ValueLaws.{sized-found, sized-only}
+use Rattle.chunk_file.specs.Entries.{IsStored, dated, entries_code, entry_code, listed, read_dated, read_del, read_entry, read_put, read_range}
+use Rattle.list_laws.specs.Options.{◌>>=◌}
+use Rattle.list_laws.proofs.Bytes.{bytes-after}
+use Rattle.list_laws.proofs.Options.{bind-some}
 
 -- how long a version's key is
 counter-none : (n : ℕ) → n ≡ 0 → length (counter_bytes n) ≡ 1
@@ -37,42 +36,7 @@ length-uncounted key at e = mvcc-length key at 1 (counter-none at.logical e)
 pub length-counted : (key : List ℕ) (at : Time) → (at.logical ≡ 0 → ⊥) → length key + 14 ≡ length (mvcc_key key at)
 length-counted key at e = mvcc-length key at 5 (counter-some at.logical e)
 
--- ---- bytes with their length in front
-
-sized-found : (b r : List ℕ) → length b < 2 ^ 64 → read_sized (sized b ++ r) ≡ Some (b, r)
-unfolding read_sized
-sized-found b r h =
-    let room : nat_le (length b) (length (b ++ r)) ≡ true = let l = length-append b r in grind (arith, nat_tests) in
-    rw (append_assoc (uvarint (length b)) b r, uvarint-found (length b) (b ++ r) h, room, take_at b r (length b) refl, drop_at b r (length b) refl) refl
-
-bytes-before : (xs ys : List ℕ) → AreBytes (xs ++ ys) → AreBytes xs
-bytes-before [] ys h = tt
-bytes-before (x ∷ xs) ys h = (h.0, bytes-before xs ys h.1)
-
-cut-some : (o : Result (ℕ × List ℕ) KeyFault) (v r : List ℕ) → cut o ≡ Some (v, r) → (n : ℕ) × (t : List ℕ) × (o ≡ Ok (n, t)) × (length v ≡ n) × (t ≡ v ++ r)
-cut-some (Ok p) v r e =
-    elim (cases_Bool (nat_le p.0 (length p.1))) [
-      | inl y ↦
-          let parts = pair_parts (take p.0 p.1, drop p.0 p.1) (v, r) (some_is (take p.0 p.1, drop p.0 p.1) (v, r) (rw y at e)) in
-          (p.0, p.1, refl, rw (← parts.0) (length-take-le p.0 p.1 (grind (arith, nat_tests))), rw (← parts.0, ← parts.1) (sym (take-append-drop p.0 p.1)))
-      | inr f ↦ let e' = rw f at e in absurd (cc)
-    ]
-cut-some (Err err) v r e = absurd (cc)
-
-sized-only : (b v r : List ℕ) → AreBytes b → read_sized b ≡ Some (v, r) → (length v < 2 ^ 64) × AreBytes v × (b ≡ sized v ++ r)
-unfolding read_sized
-sized-only b v r h e =
-    let read = cut-some (read_uvarint b) v r e in
-    let only = uvarint-only b read.0 read.1 h read.2 in
-    let front : b ≡ uvarint (length v) ++ read.1 = rw read.3 only.1 in
-    let whole : b ≡ uvarint (length v) ++ (v ++ r) = front ∙ ap (λ t. uvarint (length v) ++ t) read.4 in
-    (rw read.3 only.0, bytes-before v r (bytes-after (uvarint (length v)) (v ++ r) (rw whole at h)), whole ∙ sym (append_assoc (uvarint (length v)) v r))
-
 -- ---- keys with dates
-
-bind-some : {A B : Type 0} (o : Option A) (f : A → Option B) (y : B) → (o >>= f) ≡ Some y → (x : A) × (o ≡ Some x) × (f x ≡ Some y)
-bind-some (Some x) f y e = (x, refl, e)
-bind-some None f y e = absurd (cc)
 
 beside-some : {Y : Type 0} (o : Option Y) (r rest : List ℕ) (y : Y) → option_map {U = Y × List ℕ} (λ d. (d, r)) o ≡ Some (y, rest) → (o ≡ Some y) × (r ≡ rest)
 beside-some (Some t) r rest y h =

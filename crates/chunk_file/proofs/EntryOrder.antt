@@ -1,16 +1,18 @@
 -- The order of entries is strict.
-use Rattle.std.proofs.Common.{◌≡◌, Bool, true, false, List, [], ◌∷◌, Some, Ordering, Less, Equal, Greater, refl, ap, ◌∙◌, arith}
+use Rattle.std.proofs.Common.{◌≡◌, Bool, true, false, List, [], ◌∷◌, Some, Ordering, refl, ap, ◌∙◌}
 use Rattle.std.specs.Prelude.{◌&&◌, ◌||◌, if◌then◌else◌}
 use Rattle.std.specs.List.{AllByRecursion}
 use Rattle.std.specs.Ordering.{is_lt, ordering_reverse}
 use Rattle.std.specs.Cmp.{IsTotalOrder}
-use Rattle.std.proofs.lemmas.Bool.Decides.{nat_tests}
 use Rattle.std.proofs.lemmas.Cmp.{nat_cmp_total, on_total, then_total, back_total, nat_list_cmp_total}
-use Rattle.mvcc_keys.specs.Times.{Time, time_lt}
+use Rattle.mvcc_keys.specs.Times.{Time}
 use Rattle.mvcc_keys.specs.Codes.{mvcc_cmp, time_cmp}
+use Rattle.mvcc_keys.specs.Entries.{key_of}
 use Rattle.mvcc_keys.specs.declared.entries.Entry.{Entry}
 use Rattle.row_codec.proofs.KeyOrder.{both_true}
-use Rattle.chunk_file.specs.Entries.{EntriesAreOrdered, are_ordered, comes_before, date_of, is_range, key_of}
+use Rattle.chunk_file.specs.Entries.{EntriesAreOrdered, are_ordered, comes_before, date_of, is_range}
+use Rattle.list_laws.proofs.Orderings.{lt-Less}
+use Rattle.mvcc_keys.proofs.TimeOrder.{lt-trans, lt-not_back}
 
 -- the order of puts and deletions
 abbrev point_cmp : Entry → Entry → Ordering
@@ -22,22 +24,11 @@ time_total = then_total (on_total (λ (t : Time). t.wall) nat_cmp_total) (on_tot
 point_total : IsTotalOrder point_cmp
 point_total = then_total (on_total key_of nat_list_cmp_total) (back_total (on_total date_of time_total))
 
-less : (o : Ordering) → is_lt o ≡ true → o ≡ Less
-less Less h = refl
-less Equal h = absurd (cc)
-less Greater h = absurd (cc)
-
 points-chain : (a b c : Entry) → is_lt (point_cmp a b) ≡ true → is_lt (point_cmp b c) ≡ true → is_lt (point_cmp a c) ≡ true
-points-chain a b c h k = ap is_lt (point_total.trans a b c (less (point_cmp a b) h) (less (point_cmp b c) k))
+points-chain a b c h k = ap is_lt (point_total.trans a b c (lt-Less (point_cmp a b) h) (lt-Less (point_cmp b c) k))
 
 points-one-way : (a b : Entry) → is_lt (point_cmp a b) ≡ true → is_lt (point_cmp b a) ≡ false
-points-one-way a b h = ap is_lt (point_total.antisymm b a ∙ ap ordering_reverse (less (point_cmp a b) h))
-
-dates-chain : (r s t : Time) → time_lt r s ≡ true → time_lt s t ≡ true → time_lt r t ≡ true
-dates-chain r s t h k = grind (arith, nat_tests)
-
-dates-one-way : (s t : Time) → time_lt s t ≡ true → time_lt t s ≡ false
-dates-one-way s t h = grind (arith, nat_tests)
+points-one-way a b h = ap is_lt (point_total.antisymm b a ∙ ap ordering_reverse (lt-Less (point_cmp a b) h))
 
 -- which of two entries stands before, by whether they are ranges
 abbrev before : Bool → Bool → Bool → Bool → Bool
@@ -59,11 +50,11 @@ one-way-by false false ab ba pq qp f g h = g h
 
 chains : (a b c : Entry) → comes_before a b ≡ true → comes_before b c ≡ true → comes_before a c ≡ true
 unfolding comes_before
-chains a b c h k = chains-by (is_range a) (is_range b) (is_range c) _ _ _ _ _ _ (dates-chain (date_of a) (date_of b) (date_of c)) (points-chain a b c) h k
+chains a b c h k = chains-by (is_range a) (is_range b) (is_range c) _ _ _ _ _ _ (lt-trans (date_of a) (date_of b) (date_of c)) (points-chain a b c) h k
 
 one-way : (a b : Entry) → comes_before a b ≡ true → comes_before b a ≡ false
 unfolding comes_before
-one-way a b h = one-way-by (is_range a) (is_range b) _ _ _ _ (dates-one-way (date_of a) (date_of b)) (points-one-way a b) h
+one-way a b h = one-way-by (is_range a) (is_range b) _ _ _ _ (lt-not_back (date_of a) (date_of b)) (points-one-way a b) h
 
 before-all : (a b : Entry) (es : List Entry) → comes_before a b ≡ true → AllByRecursion (λ e. comes_before b e ≡ true) es → AllByRecursion (λ e. comes_before a e ≡ true) es
 before-all a b [] h k = tt

@@ -2,12 +2,12 @@
 use Rattle.std.proofs.Common.{◌≡◌, ℕ, zero, suc, ◌+◌, ◌-◌, ◌<◌, ◌≤◌, List, [], ◌∷◌, ◌++◌, length, nat_eq, Option, Some, None, Result, Ok, Err, ◌⊎◌, inl, inr, arith, refl, sym, ap, ◌∙◌, append_assoc, length-append}
 use Rattle.std.proofs.lemmas.Bool.{cases_Bool}
 use Rattle.std.proofs.lemmas.Bool.Decides.{nat_tests}
-use Rattle.key_encoding.specs.Coding.{AreBytes}
+use Rattle.list_laws.specs.Bytes.{AreBytes}
 use Rattle.key_encoding.specs.Spelling.{uvarint}
 use Rattle.mvcc_keys.specs.declared.entries.Entry.{Entry}
 use Rattle.row_codec.specs.KeyReading.{◌>>=◌, or_at}
 use Rattle.row_codec.specs.declared.rows.Kind.{Kind}
-use Rattle.row_codec.proofs.KeyLaws.{bytes-after}
+use Rattle.list_laws.proofs.Bytes.{bytes-after}
 use Rattle.chunk_file.specs.Entries.{entries_code, entry_code}
 use Rattle.chunk_file.specs.Chunks.{chunk_mark, read_chunk, read_count, read_entries, read_mark, read_next, with_entry, next_entry}
 use Rattle.chunk_file.specs.Faults.{FaultsAreFirst, HasNoEntry, IsBroken, IsBrokenOff, IsUncounted, IsUnmarked}

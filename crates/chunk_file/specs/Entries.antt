@@ -11,6 +11,8 @@ use Rattle.mvcc_keys.specs.declared.entries.EntryView.{EntryView}
 use Rattle.row_codec.specs.KeyReading.{is_key_of, read_row_key}
 use Rattle.row_codec.specs.RowValues.{sized, read_sized, read_row_value, reads}
 use Rattle.row_codec.specs.declared.rows.Kind.{Kind}
+use Rattle.list_laws.specs.Options.{◌>>=◌}
+use Rattle.mvcc_keys.specs.Entries.{key_of}
 
 -- what a borrowed entry is
 abbrev pub seen : EntryView → Entry
@@ -24,12 +26,6 @@ abbrev pub is_range : Entry → Bool
 is_range (Entry.Put key at value) = false
 is_range (Entry.Del key at) = false
 is_range (Entry.Range lo hi at) = true
-
--- the key, of a range deletion its first
-abbrev pub key_of : Entry → List ℕ
-key_of (Entry.Put key at value) = key
-key_of (Entry.Del key at) = key
-key_of (Entry.Range lo hi at) = lo
 
 abbrev pub date_of : Entry → Time
 date_of (Entry.Put key at value) = at
@@ -89,11 +85,6 @@ entries_code [] = []
 entries_code (e ∷ es) = entry_code e ++ entries_code es
 
 -- ---- reading
-
-infixl 10 ◌>>=◌
-abbrev pub ◌>>=◌ : {A B : Type 0} → Option A → (A → Option B) → Option B
-(Some x) >>= f = f x
-None >>= f = None
 
 -- the key and the date of what was cut off
 abbrev pub dated : List ℕ × List ℕ → Option ((List ℕ × Time) × List ℕ)

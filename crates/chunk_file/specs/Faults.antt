@@ -1,7 +1,7 @@
 -- Which place is the first fault of bytes that are no chunk, by what is spelled before it.
 use Rattle.std.specs.Prelude.{◌≡◌, ℕ, ◌+◌, ◌<◌, ◌≤◌, true, Option, Some, None, Err, List, [], ◌∷◌, ◌++◌, length, ◌⊎◌}
 use Rattle.std.specs.List.{AllByRecursion}
-use Rattle.key_encoding.specs.Coding.{AreBytes}
+use Rattle.list_laws.specs.Bytes.{AreBytes}
 use Rattle.key_encoding.specs.Spelling.{uvarint}
 use Rattle.mvcc_keys.specs.declared.entries.Entry.{Entry}
 use Rattle.row_codec.specs.declared.rows.Kind.{Kind}

@@ -6,7 +6,7 @@ ghost use Rattle.chunk_file.specs.Held.{Checks};
 
 use crate::Malformed;
 use crate::reading::take_next;
-use row_codec::Kind;
+use row_codec::{CHUNK_ENTRIES_MAX, Kind};
 
 /// What follows the four bytes that a chunk begins with.
 fn take_mark(b: &[u8]) -> Option<&[u8]>
@@ -21,7 +21,10 @@ fn take_count(b: &[u8]) -> Option<(usize, &[u8])>
     ensures { option_map (λ p. (p.0, p.1.now)) result ≡ read_count b.now }
 {
     match key_encoding::take_uvarint(b) {
-        Ok((count, rest)) if 1 <= count && count <= 256 => Some((count as usize, rest)),
+        Ok((count, rest)) if 1 <= count && count <= CHUNK_ENTRIES_MAX => Some((
+            count as usize,
+            rest,
+        )),
         _ => None,
     }
 }

@@ -17,6 +17,3 @@ pub use reading::comes_before;
 pub use row_codec::Kind;
 pub use view::{ChunkIter, ChunkView};
 pub use writing::write_chunk_bytes;
-
-#[cfg(test)]
-mod tests;

@@ -1,23 +1,12 @@
 //! Reading of single entries, in the bytes that they stand in.
 ghost use Rattle.std.specs.Prelude.{◌≡◌};
 ghost use Rattle.std.specs.Option.{option_map};
-ghost use Rattle.row_codec.specs.RowValues.{read_sized};
-ghost use Rattle.chunk_file.specs.Entries.{comes_before, date_of, is_entry, is_range, is_row_key, key_of, may_follow, read_dated, read_put, read_del, read_range, read_entry, seen};
+ghost use Rattle.chunk_file.specs.Entries.{comes_before, date_of, is_entry, is_range, is_row_key, may_follow, read_dated, read_put, read_del, read_range, read_entry, seen};
+ghost use Rattle.mvcc_keys.specs.Entries.{key_of};
 ghost use Rattle.chunk_file.specs.Chunks.{read_next};
 
 use mvcc_keys::{EntryView, Hlc, cmp_mvcc, split_mvcc};
-use row_codec::{Kind, check_row_key, check_row_value};
-
-/// As many bytes as the length in front says, and what follows.
-#[tactic(auto, unfolding(row_codec::specs::RowValues::read_sized))]
-fn take_sized(b: &[u8]) -> Option<(&[u8], &[u8])>
-    ensures { option_map (λ p. (p.0.now, p.1.now)) result ≡ read_sized b.now }
-{
-    match key_encoding::take_uvarint(b) {
-        Ok((len, rest)) if len <= rest.len() as u64 => Some(rest.split_at(len as usize)),
-        _ => None,
-    }
-}
+use row_codec::{Kind, check_row_key, check_row_value, take_sized};
 
 /// The key and the date of the version's key in front, and what follows.
 #[tactic(auto, unfolding(crate::specs::Entries::read_dated))]

@@ -6,15 +6,7 @@ ghost use Rattle.chunk_file.specs.Entries.{entry_code, entries_code};
 ghost use Rattle.chunk_file.specs.Chunks.{head_code, chunk_bytes};
 
 use mvcc_keys::{Entry, Hlc, Memory, encode_mvcc};
-
-/// Appends the length of bytes, and the bytes.
-fn put_sized(b: &[u8], out: &mut Vec<u8>) -> Result<(), Memory>
-    ensures ok { OnOk result (out.new.items ≡ out.old.items ++ sized b.now) }
-    ensures err { OnErr result (take (length out.old.items) out.new.items ≡ out.old.items) }
-{
-    key_encoding::put_uvarint(b.len() as u64, out).map_err(|_| Memory)?;
-    out.extend_from_slice(b).map_err(|_| Memory)
-}
+use row_codec::put_sized;
 
 /// How many bytes the key of a version has.
 #[tactic(auto, unfolding(mvcc_keys::specs::Codes::mvcc_key))]

@@ -1,2 +1,4 @@
 pub mod Steps
+pub mod FewChunks
 pub mod ManifestLaws
+pub mod ManifestWalks

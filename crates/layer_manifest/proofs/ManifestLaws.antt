@@ -7,12 +7,12 @@ use Rattle.std.proofs.lemmas.Bool.{cases_Bool}
 use Rattle.std.proofs.lemmas.Bool.Decides.{nat_tests}
 use Rattle.std.proofs.lemmas.Slice.Eq.{bytes_eq-Decides}
 use Rattle.key_encoding.specs.Coding.{IsWord}
+use Rattle.list_laws.specs.Bytes.{AreBytes}
 use Rattle.key_encoding.specs.Spelling.{uvarint}
-use Rattle.mvcc_keys.specs.Times.{IsTime, time_lt, time_le}
-use Rattle.mvcc_keys.specs.Codes.{AreBytes, time_bytes}
+use Rattle.mvcc_keys.specs.Times.{IsTime, time_lt, time_le, time_eq}
+use Rattle.mvcc_keys.specs.Codes.{time_bytes}
 use Rattle.row_codec.specs.declared.rows.Kind.{Kind}
 use Rattle.row_codec.specs.RowValues.{sized}
-use Rattle.row_codec.proofs.KeyLaws.{bytes-after}
 use Rattle.row_codec.proofs.KeyOrder.{both_true}
 use Rattle.table_descriptors.specs.Fields.{IsFormat, made_of, EachAfter, is_id, is_count, read_sized, read_name, flag_code, list_code}
 use Rattle.table_descriptors.specs.Descriptors.{Schema, IsProperSchema}
@@ -23,11 +23,12 @@ use Rattle.table_descriptors.proofs.FieldLaws.{then-format, made-format, such-fo
 use Rattle.table_descriptors.proofs.ListLaws.{each-weaker}
 use Rattle.table_descriptors.proofs.DescriptorLaws.{IsId, IsName, id-is, id-of, name-short, schema-format}
 use Rattle.table_descriptors.proofs.DescriptorLengths.{schema-length}
-use Rattle.layer_manifest.specs.Manifests.{comes_after, are_bounds, IsBounded, IsProperChunk, is_next_descriptor, kinds_of, part_id, chunk_count, IsNextTable, IsProperScope, same_time, IsProperManifest}
+use Rattle.layer_manifest.specs.Manifests.{comes_after, are_bounds, IsBounded, IsProperChunk, is_next_descriptor, kinds_of, part_id, chunk_count, IsNextTable, IsProperScope, IsProperManifest}
 use Rattle.layer_manifest.specs.ManifestFiles.{version_code, bounds_code, chunk_code, descriptor_code, table_code, scope_code, manifest_code, is_version_code, version_of, read_version, read_scope_id, read_ids, read_marked_scope, read_scope, beside_or, inside_of, inside, read_next_descriptor, read_descriptors, read_keys, read_bounds, is_entry_count, chunk_of, read_chunk, read_chunks, table_of, read_table, read_tables, ManifestFields, read_items_of_manifest, manifest_of, read_manifest_front}
 use Rattle.layer_manifest.specs.declared.manifest.ChunkInfo.{ChunkInfo}
 use Rattle.layer_manifest.specs.declared.manifest.TablePart.{TablePart}
 use Rattle.layer_manifest.specs.declared.manifest.Manifest.{Manifest}
+use Rattle.list_laws.proofs.Bytes.{bytes-after, bytes-before}
 
 -- ---- the version
 
@@ -48,7 +49,7 @@ version-back b h =
       | inr f ↦ let two : bytes_eq b (version_code 2) ≡ true = rw f at h.1 in rw f (refl, sym ((bytes_eq-Decides b (version_code 2)).0 two))
     ]
 
-version-format : IsFormat IsVersion version_code read_version
+pub version-format : IsFormat IsVersion version_code read_version
 version-format = made-format IsVersion version_of version_code (such-format is_version_code (exactly-format 4)) version-into version-back
 
 -- ---- the scope
@@ -103,15 +104,11 @@ database-format = record { found = found; only = only }
           ]
         ]
 
-scope-format : IsFormat IsProperScope scope_code read_scope
+pub scope-format : IsFormat IsProperScope scope_code read_scope
 unfolding read_scope
 scope-format = item-format database-format
 
 -- ---- descriptors
-
-bytes-before : (xs ys : List ℕ) → AreBytes (xs ++ ys) → AreBytes xs
-bytes-before [] ys h = tt
-bytes-before (x ∷ xs) ys h = (h.0, bytes-before xs ys h.1)
 
 beside_or-ok : {X : Type 0} (at : ℕ) (rest : List ℕ) (o : Result X ℕ) (x : X) (r : List ℕ) → beside_or at rest o ≡ Ok (x, r) → (o ≡ Ok x) × (rest ≡ r)
 beside_or-ok {X} at rest (Ok y) x r e = let parts = ok_parts (y, rest) (x, r) e in (ap (λ (z : X). let w : Result X ℕ = Ok z in w) parts.0, parts.1)
@@ -135,7 +132,7 @@ inside-format = record {
       (was.0, front.1 ∙ ap (λ v. sized v ++ r) was.1);
 }
 
-next_descriptor-format : (id : ℕ) (before : List Schema) → IsFormat (λ d. IsProperSchema d × (is_next_descriptor id before d ≡ true)) descriptor_code (read_next_descriptor id before)
+pub next_descriptor-format : (id : ℕ) (before : List Schema) → IsFormat (λ d. IsProperSchema d × (is_next_descriptor id before d ≡ true)) descriptor_code (read_next_descriptor id before)
 unfolding read_next_descriptor
 next_descriptor-format id before = such-format (is_next_descriptor id before) inside-format
 
@@ -171,7 +168,7 @@ bounds-format version table kinds = record { found = found; only = only }
           | inr f ↦ some b o r f h (rw f at e)
         ]
 
-chunk-format : (version table : ℕ) (kinds : List Kind) → IsFormat (IsProperChunk version table kinds) chunk_code (read_chunk version table kinds)
+pub chunk-format : (version table : ℕ) (kinds : List Kind) → IsFormat (IsProperChunk version table kinds) chunk_code (read_chunk version table kinds)
 unfolding read_chunk
 chunk-format version table kinds = item-format (made-format (IsProperChunk version table kinds) chunk_of (λ (c : ChunkInfo). (c.entries, (c.length, (c.digest, c.bounds))))
     (then-format (such-format is_entry_count number-format) (λ entries. then-format number-format (λ len. then-format (exactly-format 32) (λ digest. bounds-format version table kinds))))
@@ -239,7 +236,7 @@ AreFields p =
     IsVersion p.0 × (IsName p.1.0 × ((IsId p.1.1.0 × (is_count p.1.1.0 ≡ true)) × (IsTime p.1.1.1.0 × (IsTime p.1.1.1.1.0
     × ((IsTime p.1.1.1.1.1.0 × ((time_lt p.1.1.1.1.0 p.1.1.1.1.1.0 && time_le p.1.1.1.0 p.1.1.1.1.1.0) ≡ true))
     × ((IsTime p.1.1.1.1.1.1.0 × ((time_le p.1.1.1.1.0 p.1.1.1.1.1.1.0 && time_le p.1.1.1.1.1.1.0 p.1.1.1.1.1.0) ≡ true))
-    × ((Unit {0} × ((p.1.1.1.1.1.1.1.0 || same_time p.1.1.1.1.1.1.0 p.1.1.1.1.0) ≡ true)) × (IsProperScope p.1.1.1.1.1.1.1.1.0 × AreTables p.0 p.1.1.1.1.1.1.1.1.1))))))))
+    × ((Unit {0} × ((p.1.1.1.1.1.1.1.0 || time_eq p.1.1.1.1.1.1.0 p.1.1.1.1.0) ≡ true)) × (IsProperScope p.1.1.1.1.1.1.1.1.0 × AreTables p.0 p.1.1.1.1.1.1.1.1.1))))))))
 
 abbrev fields_code : ManifestFields → List ℕ
 fields_code p =
@@ -250,7 +247,7 @@ fields-format : IsFormat AreFields fields_code read_items_of_manifest
 fields-format =
     then-format version-format (λ version. then-format name-format (λ cluster. then-format count-format (λ job. then-format time-format (λ full. then-format time-format (λ start.
     then-format (such-format (λ end. time_lt start end && time_le full end) time-format) (λ end. then-format (such-format (λ floor. time_le start floor && time_le floor end) time-format) (λ floor.
-    then-format (such-format (λ history. history || same_time floor start) flag-format) (λ history. then-format scope-format (λ scope. tables-format version)))))))))
+    then-format (such-format (λ history. history || time_eq floor start) flag-format) (λ history. then-format scope-format (λ scope. tables-format version)))))))))
 
 abbrev parts_of : Manifest → ManifestFields
 parts_of m = (m.version, (m.cluster, (m.job, (m.full, (m.start, (m.end, (m.floor, (m.history, (m.scope, m.tables)))))))))

@@ -2,8 +2,9 @@
 use Rattle.std.specs.Prelude.{◌≡◌, ℕ, ◌+◌, Bool, true, ◌&&◌, ◌||◌, ◌==◌, nat_lt, nat_le, Option, Some, None, Result, Ok, Err, List, [], ◌∷◌, ◌++◌, length, if◌then◌else◌}
 use Rattle.std.specs.Str.{bytes_eq}
 use Rattle.key_encoding.specs.Spelling.{uvarint}
-use Rattle.mvcc_keys.specs.Times.{Time, time_lt, time_le}
-use Rattle.mvcc_keys.specs.Codes.{AreBytes, time_bytes}
+use Rattle.mvcc_keys.specs.Times.{Time, time_lt, time_le, time_eq}
+use Rattle.mvcc_keys.specs.Codes.{time_bytes}
+use Rattle.list_laws.specs.Bytes.{AreBytes}
 use Rattle.row_codec.specs.declared.rows.Kind.{Kind}
 use Rattle.row_codec.specs.RowValues.{sized}
 use Rattle.table_descriptors.specs.Fields.{◌then◌, made_of, such, item, list_code, read_list, read_number, read_id, read_count, read_exactly, read_sized, read_name, read_time, read_byte, flag_of, flag_code, whole}
@@ -11,7 +12,7 @@ use Rattle.table_descriptors.specs.Descriptors.{Schema}
 use Rattle.table_descriptors.specs.DescriptorFiles.{schema_code, read_descriptor}
 use Rattle.table_descriptors.specs.declared.scopes.Scope.{Scope}
 use Rattle.table_descriptors.specs.declared.scopes.Scope.TheVariants.{Database, Tables}
-use Rattle.layer_manifest.specs.Manifests.{comes_after, are_bounds, is_next_descriptor, kinds_of, part_id, chunk_count, same_time, IsProperManifest}
+use Rattle.layer_manifest.specs.Manifests.{comes_after, are_bounds, is_next_descriptor, kinds_of, part_id, chunk_count, IsProperManifest}
 use Rattle.layer_manifest.specs.declared.faults.ManifestFault.{ManifestFault}
 use Rattle.layer_manifest.specs.declared.faults.ManifestFault.TheVariants.{Malformed, Memory}
 use Rattle.layer_manifest.specs.declared.manifest.ChunkInfo.{ChunkInfo}
@@ -75,7 +76,7 @@ read_floor start end = such (λ floor. time_le start floor && time_le floor end)
 
 -- without history the floor is the start
 abbrev pub read_history : Time → Time → List ℕ → Result (Bool × List ℕ) ℕ
-read_history start floor = such (λ history. history || same_time floor start) (read_byte flag_of)
+read_history start floor = such (λ history. history || time_eq floor start) (read_byte flag_of)
 
 -- ---- the scope, as one item
 

@@ -4,7 +4,7 @@ use Rattle.std.specs.List.{slice_get, sum_by, AllByRecursion}
 use Rattle.std.specs.Str.{bytes_eq}
 use Rattle.std.specs.Ordering.{nat_cmp, is_le}
 use Rattle.std.specs.Cmp.Lexicographic.{slice_cmp}
-use Rattle.mvcc_keys.specs.Times.{Time, IsTime, time_lt, time_le}
+use Rattle.mvcc_keys.specs.Times.{IsTime, time_eq, time_lt, time_le}
 use Rattle.row_codec.specs.declared.rows.Kind.{Kind}
 use Rattle.row_codec.specs.declared.rows.Kind.TheVariants.{Int, Text, Bytes, Bool as Truth, IntDown, TextDown, BytesDown, BoolDown}
 use Rattle.row_codec.specs.KeyReading.{read_row_key, is_key_of}
@@ -88,6 +88,13 @@ part_id t = t.id
 abbrev pub chunk_count : List TablePart → ℕ
 chunk_count tables = sum_by (λ (t : TablePart). length t.chunks) tables
 
+-- how many entries the chunks of tables have
+abbrev pub chunk_entries : ChunkInfo → ℕ
+chunk_entries c = c.entries
+
+abbrev pub entry_count : List TablePart → ℕ
+entry_count tables = sum_by (λ (t : TablePart). sum_by chunk_entries t.chunks) tables
+
 -- what is true of each table after those before it: a greater id; at least one descriptor; descriptors of its id with ascending dates and
 -- equal key columns; no more than 1,000,000 chunks up to here
 pub record IsNextTable (version : ℕ) (before : List TablePart) (t : TablePart) : Type 0 where
@@ -106,9 +113,6 @@ abbrev pub IsProperScope : Scope → Type 0
 IsProperScope (Database name) = is_name name ≡ true
 IsProperScope (Tables ids) = (0 < length ids) × (length ids < 2 ^ 64) × EachAfter (λ before id. (is_id id ≡ true) × (comes_after (λ n. n) before id ≡ true)) [] ids
 
-abbrev pub same_time : Time → Time → Bool
-same_time s t = (s.wall == t.wall) && (s.logical == t.logical)
-
 -- what is true of every manifest: version 1 or 2; a job from 1; start < end, start <= floor <= end, full <= end; without history the floor
 -- is the start; tables by ascending ids
 pub record IsProperManifest (m : Manifest) : Type 0 where
@@ -122,7 +126,7 @@ pub record IsProperManifest (m : Manifest) : Type 0 where
   pub floor : IsTime m.floor
   pub ends : (time_lt m.start m.end && time_le m.full m.end) ≡ true
   pub floors : (time_le m.start m.floor && time_le m.floor m.end) ≡ true
-  pub history : (m.history || same_time m.floor m.start) ≡ true
+  pub history : (m.history || time_eq m.floor m.start) ≡ true
   pub scope : IsProperScope m.scope
   pub counted : length m.tables < 2 ^ 64
   pub tables : EachAfter (IsNextTable m.version) [] m.tables

@@ -3,11 +3,8 @@ ghost use Rattle.std.specs.Prelude.{◌≡◌, IfOk};
 
 use crate::manifest::{ChunkInfo, Manifest, TablePart};
 use mvcc_keys::{Blob, Items, Memory};
-use row_codec::RowFault;
 use std::alloc::Global;
-use table_descriptors::{
-    Descriptor, Scope, descriptors_are_exact, read_descriptor, write_descriptor,
-};
+use table_descriptors::{Descriptor, Scope};
 
 fn copy_bounds(alloc: Global, bounds: &Option<(Blob, Blob)>) -> Result<Option<(Blob, Blob)>, Memory>
     ensures { IfOk result (λ b. b ≡ bounds.now) }
@@ -39,27 +36,12 @@ fn copy_chunks(alloc: Global, chunks: &[ChunkInfo]) -> Result<Vec<ChunkInfo>, Me
     Ok(copies)
 }
 
-/// A descriptor is written and read again, since its fields are its own crate's.
-fn copy_descriptor(alloc: Global, d: &Descriptor) -> Result<Descriptor, Memory>
-    ensures { IfOk result (λ e. e ≡ d.now) }
-{
-    d.proper();
-    descriptors_are_exact();
-    let mut bytes = Vec::new(alloc);
-    write_descriptor(d, &mut bytes)?;
-    match read_descriptor(alloc, bytes.as_slice()) {
-        Ok(copy) => Ok(copy),
-        Err(RowFault::Memory) => Err(Memory),
-        Err(RowFault::At { .. }) => unreachable!(),
-    }
-}
-
 fn copy_descriptors(alloc: Global, descriptors: &[Descriptor]) -> Result<Vec<Descriptor>, Memory>
     ensures { IfOk result (λ v. v.items ≡ descriptors.now) }
 {
     let mut copies = Vec::new(alloc);
-    for d in descriptors {
-        copies.push(copy_descriptor(alloc, d)?)?;
+    for descriptor in descriptors {
+        copies.push(descriptor.copy(alloc)?)?;
     }
     Ok(copies)
 }

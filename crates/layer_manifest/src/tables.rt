@@ -5,14 +5,15 @@ ghost use Rattle.table_descriptors.specs.Fields.{Reads, read_items, read_exactly
 ghost use Rattle.layer_manifest.specs.Manifests.{same_kind, same_kinds, same_key, has_key_of, is_dated_after, is_next_descriptor, kinds_of, are_bounds, comes_after, part_id, chunk_count};
 ghost use Rattle.layer_manifest.specs.ManifestFiles.{inside, read_next_descriptor, read_descriptors, read_bounds, read_chunk_fields, read_chunk, read_chunks, read_table, read_tables};
 ghost use Rattle.table_descriptors.specs.DescriptorFiles.{read_descriptor};
+ghost use Rattle.table_descriptors.specs.declared.limits.TheConstants.{CHUNKS_MAX};
 
 use crate::manifest::{ChunkInfo, TablePart};
 use mvcc_keys::{Blob, Items, Memory};
-use row_codec::{Kind, RowFault, check_row_key};
+use row_codec::{CHUNK_ENTRIES_MAX, Kind, RowFault, check_row_key};
 use std::alloc::Global;
 use table_descriptors::{
-    Descriptor, FieldFault, broken, read_descriptor, take_exactly, take_flag, take_id, take_number,
-    take_sized,
+    CHUNKS_MAX, Descriptor, FieldFault, broken, read_descriptor, take_exactly, take_flag, take_id,
+    take_number, take_sized,
 };
 
 fn keep<T: Drop>(items: &mut Vec<T>, item: T) -> Result<(), Memory>
@@ -46,33 +47,38 @@ fn same_kinds(a: &[Kind], b: &[Kind]) -> bool
 }
 
 /// Whether two descriptors have the same key columns, of the same kinds and directions.
-fn same_key(alloc: Global, d: &Descriptor, e: &Descriptor) -> Result<bool, Memory>
-    ensures { IfOk result (λ same. same ≡ same_key d.now e.now) }
+fn same_key(alloc: Global, first: &Descriptor, second: &Descriptor) -> Result<bool, Memory>
+    ensures { IfOk result (λ same. same ≡ same_key first.now second.now) }
 {
-    let ids = d.key_columns() == e.key_columns();
-    let kinds = d.key_kinds(alloc)?;
-    let others = e.key_kinds(alloc)?;
+    let ids = first.key_columns() == second.key_columns();
+    let kinds = first.key_kinds(alloc)?;
+    let others = second.key_kinds(alloc)?;
     Ok(ids && same_kinds(kinds.as_slice(), others.as_slice()))
 }
 
-fn is_dated_after(last: Option<&Descriptor>, d: &Descriptor) -> bool
-    ensures { result ≡ is_dated_after (option_copied last.entry) d.now }
+fn is_dated_after(last: Option<&Descriptor>, descriptor: &Descriptor) -> bool
+    ensures { result ≡ is_dated_after (option_copied last.entry) descriptor.now }
 {
     match last {
-        Some(last) => last.modified() < d.modified(),
+        Some(last) => last.modified() < descriptor.modified(),
         None => true,
     }
 }
 
 /// Whether a descriptor may come after others in a table.
-fn is_next(alloc: Global, id: u32, before: &[Descriptor], d: &Descriptor) -> Result<bool, Memory>
-    ensures { IfOk result (λ is. is ≡ is_next_descriptor id before.now d.now) }
+fn is_next(
+    alloc: Global,
+    id: u32,
+    before: &[Descriptor],
+    descriptor: &Descriptor,
+) -> Result<bool, Memory>
+    ensures { IfOk result (λ is. is ≡ is_next_descriptor id before.now descriptor.now) }
 {
-    if d.id() != id || !is_dated_after(before.last(), d) {
+    if descriptor.id() != id || !is_dated_after(before.last(), descriptor) {
         return Ok(false);
     }
     match before.first() {
-        Some(first) => same_key(alloc, first, d),
+        Some(first) => same_key(alloc, first, descriptor),
         None => Ok(true),
     }
 }
@@ -201,7 +207,7 @@ fn take_chunk_fields<'a>(
     ensures { Reads (λ p. (p.0, p.1.now)) result (read_chunk_fields version table kinds.now b.now) }
 {
     let (entries, rest) = take_number(b)?;
-    if entries < 1 || entries > 256 {
+    if entries < 1 || entries > CHUNK_ENTRIES_MAX {
         return Err(broken(b));
     }
     let (length, rest) = take_number(rest)?;
@@ -266,12 +272,12 @@ fn take_chunks<'a>(
     so_far: u64,
     b: &'a [u8],
 ) -> Result<(Vec<ChunkInfo>, &'a [u8]), FieldFault>
-    requires { so_far ≤ 1000000 }
+    requires { so_far ≤ CHUNKS_MAX }
     ensures read { Reads (λ p. (p.0.items, p.1.now)) result (read_chunks version table kinds.now so_far b.now) }
-    ensures few { IfOk result (λ p. so_far + length p.0.items ≤ 1000000) }
+    ensures few { IfOk result (λ p. so_far + length p.0.items ≤ CHUNKS_MAX) }
 {
     let (count, rest) = take_number(b)?;
-    if count > 1_000_000 - so_far {
+    if count > u64::from(CHUNKS_MAX) - so_far {
         return Err(broken(b));
     }
     take_each_chunk(alloc, version, table, kinds, count, rest)
@@ -298,9 +304,9 @@ fn take_table<'a>(
     b: &'a [u8],
 ) -> Result<(TablePart, &'a [u8]), FieldFault>
     requires counted { so_far ≡ chunk_count before.now }
-    requires few { so_far ≤ 1000000 }
+    requires few { so_far ≤ CHUNKS_MAX }
     ensures read { Reads (λ p. (p.0, p.1.now)) result (read_table version before.now b.now) }
-    ensures few { IfOk result (λ p. so_far + length p.0.chunks ≤ 1000000) }
+    ensures few { IfOk result (λ p. so_far + length p.0.chunks ≤ CHUNKS_MAX) }
 {
     let (id, rest) = take_id(b)?;
     if !comes_after(before, id) {

@@ -1,13 +1,12 @@
 //! Manifests, written.
 ghost use Rattle.std.specs.Prelude.{◌≡◌, ◌++◌, ◌∷◌, [], ◌≤◌, length, take, OnOk, OnErr};
-ghost use Rattle.key_encoding.specs.Spelling.{uvarint};
 ghost use Rattle.table_descriptors.specs.Fields.{list_code, flag_code};
 ghost use Rattle.layer_manifest.specs.Manifests.{IsProperManifest};
 ghost use Rattle.layer_manifest.specs.ManifestFiles.{version_code, bounds_code, chunk_code, descriptor_code, table_code, scope_code, names_code, times_code, manifest_code};
 
 use crate::manifest::{ChunkInfo, Manifest, TablePart};
 use mvcc_keys::{Blob, Memory, put_time};
-use table_descriptors::{Descriptor, Scope, put_number, put_sized, write_descriptor};
+use table_descriptors::{Descriptor, Scope, put_ids, put_number, put_sized, write_descriptor};
 
 fn put_flag(flag: bool, out: &mut Vec<u8>) -> Result<(), Memory>
     ensures ok { OnOk result (out.new.items ≡ out.old.items ++ flag_code flag ∷ []) }
@@ -49,12 +48,12 @@ fn put_chunks(chunks: &[ChunkInfo], out: &mut Vec<u8>) -> Result<(), Memory>
 }
 
 /// Appends a descriptor after its length. Its bytes are made beside the others first.
-fn put_descriptor(d: &Descriptor, out: &mut Vec<u8>) -> Result<(), Memory>
-    ensures ok { OnOk result (out.new.items ≡ out.old.items ++ descriptor_code d.now) }
+fn put_descriptor(descriptor: &Descriptor, out: &mut Vec<u8>) -> Result<(), Memory>
+    ensures ok { OnOk result (out.new.items ≡ out.old.items ++ descriptor_code descriptor.now) }
     ensures err { OnErr result (take (length out.old.items) out.new.items ≡ out.old.items) }
 {
     let mut bytes = Vec::new(*out.allocator());
-    write_descriptor(d, &mut bytes)?;
+    write_descriptor(descriptor, &mut bytes)?;
     put_sized(bytes.as_slice(), out)
 }
 
@@ -87,17 +86,6 @@ fn put_tables(tables: &[TablePart], out: &mut Vec<u8>) -> Result<(), Memory>
     put_number(tables.len() as u64, out)?;
     for table in tables {
         put_table(table, out)?;
-    }
-    Ok(())
-}
-
-fn put_ids(ids: &[u32], out: &mut Vec<u8>) -> Result<(), Memory>
-    ensures ok { OnOk result (out.new.items ≡ out.old.items ++ list_code uvarint ids.now) }
-    ensures err { OnErr result (take (length out.old.items) out.new.items ≡ out.old.items) }
-{
-    put_number(ids.len() as u64, out)?;
-    for id in ids {
-        put_number(u64::from(*id), out)?;
     }
     Ok(())
 }
@@ -157,13 +145,13 @@ impl Manifest {
 }
 
 /// Appends a manifest, in the form of its version.
-pub fn write_manifest(m: &Manifest, out: &mut Vec<u8>) -> Result<(), Memory>
-    requires { IsProperManifest m.now }
-    ensures ok { OnOk result (out.new.items ≡ out.old.items ++ manifest_code m.now) }
+pub fn write_manifest(manifest: &Manifest, out: &mut Vec<u8>) -> Result<(), Memory>
+    requires { IsProperManifest manifest.now }
+    ensures ok { OnOk result (out.new.items ≡ out.old.items ++ manifest_code manifest.now) }
     ensures err { OnErr result (out.new.items ≡ out.old.items) }
 {
     let before = out.len();
-    let done = m.put(out);
+    let done = manifest.put(out);
     if done.is_err() {
         out.truncate(before);
     }

@@ -1,5 +1,5 @@
 -- The fields of an object's name, each both ways.
-use Rattle.std.proofs.Common.{◌≡◌, ℕ, zero, suc, ◌+◌, ◌-◌, ◌*◌, ◌/◌, ◌%◌, ◌^◌, ◌<◌, ◌≤◌, ◌==◌, Bool, true, false, ◌&&◌, cond, List, [], ◌∷◌, ◌++◌, length, slice_index, get_or, drop, Option, Some, None, Result, Ok, Err, refl, sym, ap, subst, ◌∙◌, arith, inl, inr, nat_lt, nat_le, length-append, append-nil}
+use Rattle.std.proofs.Common.{◌≡◌, ℕ, zero, suc, ◌+◌, ◌-◌, ◌*◌, ◌/◌, ◌%◌, ◌^◌, ◌<◌, ◌≤◌, ◌==◌, Bool, true, false, ◌&&◌, List, [], ◌∷◌, ◌++◌, length, slice_index, drop, Some, Result, Ok, Err, refl, sym, ap, subst, ◌∙◌, arith, inl, inr, nat_lt, nat_le, length-append, append-nil}
 use Rattle.std.specs.Prelude.{if◌then◌else◌, codes, option_map}
 use Rattle.std.specs.List.{list_all, take_while}
 use Rattle.std.specs.Result.{result_ok, result_unwrap_or}
@@ -16,34 +16,20 @@ use Rattle.hex.specs.Hex.{IsBytes, decode_of, decode_pairs, decode_sized, encode
 use Rattle.hex.specs.declared.error.FromHexError.{FromHexError}
 use Rattle.hex.proofs.HexLemmas.{decode_of-even, decode_of-ok, decode_sized-encode_lower, decode_sized-ok, decode_sized-twice}
 use Rattle.hex.proofs.Pairs.{cons_byte, decode_pairs-ok_pair}
-use Rattle.mvcc_keys.specs.Codes.{AreBytes, bytes32, bytes64, number32, read_time_bytes, time_bytes}
+use Rattle.mvcc_keys.specs.Codes.{bytes32, bytes64, number32, read_time_bytes, time_bytes}
+use Rattle.list_laws.specs.Bytes.{AreBytes}
 use Rattle.mvcc_keys.specs.TimeTexts.{are_digits, is_digit}
 use Rattle.mvcc_keys.specs.Times.{Time, IsTime}
-use Rattle.mvcc_keys.proofs.CodeLaws.{time_bytes-exact}
+use Rattle.mvcc_keys.proofs.CodeLaws.{length-time_bytes, time_bytes-exact}
 use Rattle.table_descriptors.specs.Names.{is_name, is_name_text, is_name_byte}
 use Rattle.layer_model.specs.declared.names.Part.{Part}
 use Rattle.layer_model.specs.declared.names.Part.TheVariants.{Gate, Manifest, Chunk, Mark}
-use Rattle.layer_model.specs.Names.{IsNumbered, ◌>>=◌, digit_value, is_lower_digit, is_no_point, job_digits, last_digit, part_text, read_hex, read_job, read_numbered, read_part, read_six, read_time, read_word, six_digits, time_digits}
+use Rattle.layer_model.specs.Names.{IsNumbered, digit_value, is_lower_digit, is_no_point, job_digits, last_digit, part_text, read_hex, read_job, read_numbered, read_part, read_six, read_time, read_word, six_digits, time_digits}
+use Rattle.list_laws.proofs.Options.{bind-some, map-some, cond-some, some-parts}
+use Rattle.list_laws.proofs.Bytes.{bytes-get}
+use Rattle.list_laws.proofs.Places.{none-left}
 
 -- ---- what an answer holds
-
--- what a step after another shows
-pub bound : {A B : Type 0} (o : Option A) (f : A → Option B) (y : B) → (o >>= f) ≡ Some y → (x : A) × (o ≡ Some x) × (f x ≡ Some y)
-bound (Some x) f y e = (x, refl, e)
-bound None f y e = absurd cc
-
-pub mapped : {A B : Type 0} (o : Option A) (f : A → B) (y : B) → option_map f o ≡ Some y → (x : A) × (o ≡ Some x) × (f x ≡ y)
-mapped (Some x) f y e = (x, refl, cc)
-mapped None f y e = absurd cc
-
-pub tested : {A : Type 0} (b : Bool) (o : Option A) (y : A) → cond b o None ≡ Some y → (b ≡ true) × (o ≡ Some y)
-tested true o y e = (refl, e)
-tested false o y e = absurd cc
-
-pub some_pair : {X Y : Type 0} (a b : X) (c d : Y) → (let x : Option (X × Y) = Some (a, c) in x ≡ Some (b, d)) → (a ≡ b) × (c ≡ d)
-some_pair {X} {Y} a b c d e =
-    let pairs : (let x : X × Y = (a, c) in x ≡ (b, d)) = cc in
-    (ap (λ (p : X × Y). p.0) pairs, ap (λ (p : X × Y). p.1) pairs)
 
 -- ---- words
 
@@ -76,8 +62,8 @@ pub word-only : (b w r : List ℕ) → read_word b ≡ Some (w, r) → b ≡ w +
 unfolding read_word
 word-only b w r e =
     let front = take_while is_no_point b in
-    let t = tested (nat_lt (length front) (length b)) (Some (front, drop 1 (drop (length front) b))) (w, r) e in
-    let parts = some_pair front w (drop 1 (drop (length front) b)) r t.1 in
+    let t = cond-some (nat_lt (length front) (length b)) (Some (front, drop 1 (drop (length front) b))) (w, r) e in
+    let parts = some-parts front w (drop 1 (drop (length front) b)) r t.1 in
     let less : length front < length b = let l = t.0 in grind (arith, nat_tests) in
     rw (← parts.0, ← parts.1) (word_split b less)
 
@@ -212,7 +198,7 @@ ok_read (Err f) xs e = absurd cc
 hex-only : (n : ℕ) (digits xs : List ℕ) → read_hex n digits ≡ Some xs → IsHexOf n digits xs
 unfolding read_hex
 hex-only n digits xs e =
-    let t = tested (list_all is_lower_digit digits) (result_ok (decode_sized digits n)) xs e in
+    let t = cond-some (list_all is_lower_digit digits) (result_ok (decode_sized digits n)) xs e in
     let sized = ok_read (decode_sized digits n) xs t.1 in
     let long = decode_sized-ok digits n xs sized in
     let whole : decode_of digits ≡ Ok xs = sym (decode_sized-twice digits n long) ∙ sized in
@@ -221,22 +207,9 @@ hex-only n digits xs e =
 
 -- ---- times and jobs
 
-bytes-at : (b : List ℕ) (i : ℕ) → AreBytes b → get_or b i 0 < 256
-bytes-at [] i h = omega arith
-bytes-at (x ∷ b) zero h = h.0
-bytes-at (x ∷ b) (suc i) h = bytes-at b i h.1
-
 bytes_by_index : (b : List ℕ) → IsBytes b → AreBytes b
 bytes_by_index [] h = tt
 bytes_by_index (x ∷ b) h = (h 0, bytes_by_index b (λ i. h (suc i)))
-
-none_left : (xs : List ℕ) → length xs ≡ 0 → xs ≡ []
-none_left [] l = refl
-none_left (x ∷ xs) l = absurd (omega arith)
-
-length-time_bytes : (t : Time) → length (time_bytes t) ≡ 12
-unfolding time_bytes bytes64 bytes32
-length-time_bytes t = refl
 
 time_bytes-bytes : (t : Time) → AreBytes (time_bytes t)
 unfolding time_bytes bytes64 bytes32
@@ -251,31 +224,31 @@ bytes32-bytes n =
     (b _, (b _, (b _, (b _, tt))))
 
 pub time_has_no_point : (t : Time) → list_all is_no_point (time_digits t) ≡ true
-time_has_no_point t = hex_has_no_point (time_bytes t) (λ i. bytes-at (time_bytes t) i (time_bytes-bytes t))
+time_has_no_point t = hex_has_no_point (time_bytes t) (λ i. bytes-get (time_bytes t) i (time_bytes-bytes t))
 
 pub job_has_no_point : (n : ℕ) → list_all is_no_point (job_digits n) ≡ true
-job_has_no_point n = hex_has_no_point (bytes32 n) (λ i. bytes-at (bytes32 n) i (bytes32-bytes n))
+job_has_no_point n = hex_has_no_point (bytes32 n) (λ i. bytes-get (bytes32 n) i (bytes32-bytes n))
 
 pub time-found : (t : Time) → IsTime t → read_time (time_digits t) ≡ Some t
 unfolding read_time
 time-found t h =
     let bytes = time_bytes-exact.found t [] h in
-    rw (hex-found 12 (time_bytes t) (length-time_bytes t) (λ i. bytes-at (time_bytes t) i (time_bytes-bytes t)), ← append-nil (time_bytes t)) (rw bytes refl)
+    rw (hex-found 12 (time_bytes t) (length-time_bytes t) (λ i. bytes-get (time_bytes t) i (time_bytes-bytes t)), ← append-nil (time_bytes t)) (rw bytes refl)
 
 pub time-only : (digits : List ℕ) (t : Time) → read_time digits ≡ Some t → IsTime t × (digits ≡ time_digits t)
 unfolding read_time
 time-only digits t e =
-    let hex = bound (read_hex 12 digits) (λ bytes. option_map (λ p. p.0) (read_time_bytes bytes)) t e in
+    let hex = bind-some (read_hex 12 digits) (λ bytes. option_map (λ p. p.0) (read_time_bytes bytes)) t e in
     let is = hex-only 12 digits hex.0 hex.1 in
-    let read = mapped (read_time_bytes hex.0) (λ (p : Time × List ℕ). p.0) t hex.2 in
+    let read = map-some (read_time_bytes hex.0) (λ (p : Time × List ℕ). p.0) t hex.2 in
     let only = time_bytes-exact.only hex.0 read.0.0 read.0.1 (bytes_by_index hex.0 is.bytes) read.1 in
-    let rest : read.0.1 ≡ [] = none_left read.0.1 (omega (arith, is.long, ap length only.1, length-append (time_bytes read.0.0) read.0.1, length-time_bytes read.0.0)) in
+    let rest : read.0.1 ≡ [] = none-left read.0.1 (omega (arith, is.long, ap length only.1, length-append (time_bytes read.0.0) read.0.1, length-time_bytes read.0.0)) in
     let bytes : hex.0 ≡ time_bytes read.0.0 = only.1 ∙ rw rest (append-nil (time_bytes read.0.0)) in
     rw (← read.2) (only.0, is.is ∙ ap encode_lower bytes)
 
 pub job-found : (n : ℕ) → n < 2 ^ 32 → read_job (job_digits n) ≡ Some n
 unfolding read_job number32 bytes32
-job-found n h = rw (hex-found 4 (bytes32 n) refl (λ i. bytes-at (bytes32 n) i (bytes32-bytes n))) (ap Some (from_be_bytes-to_be_bytes_4 n h))
+job-found n h = rw (hex-found 4 (bytes32 n) refl (λ i. bytes-get (bytes32 n) i (bytes32-bytes n))) (ap Some (from_be_bytes-to_be_bytes_4 n h))
 
 number32-fits : (b : List ℕ) → IsBytes b → number32 b < 2 ^ 32
 unfolding number32
@@ -288,7 +261,7 @@ bytes32-number32 b l h = be_bytes_4 b _ l h refl
 pub job-only : (digits : List ℕ) (n : ℕ) → read_job digits ≡ Some n → (n < 2 ^ 32) × (digits ≡ job_digits n)
 unfolding read_job
 job-only digits n e =
-    let read = mapped (read_hex 4 digits) number32 n e in
+    let read = map-some (read_hex 4 digits) number32 n e in
     let is = hex-only 4 digits read.0 read.1 in
     rw (← read.2) (number32-fits read.0 is.bytes, is.is ∙ ap encode_lower (sym (bytes32-number32 read.0 is.long is.bytes)))
 
@@ -349,14 +322,14 @@ six_of ds n l p e =
     let d = parted 2 c.1 c.3 in
     let x = parted 1 d.1 d.3 in
     let y = parted 0 x.1 x.3 in
-    let is = longer a.2 (longer b.2 (longer c.2 (longer d.2 (longer x.2 (longer y.2 (none_left y.1 y.3)))))) in
+    let is = longer a.2 (longer b.2 (longer c.2 (longer d.2 (longer x.2 (longer y.2 (none-left y.1 y.3)))))) in
     let found = six_numbers a.0 b.0 c.0 d.0 x.0 y.0 n (subst (λ k. are_digits k ≡ true) is p) (subst (λ k. six_value k ≡ n) is e) in
     (found.0, is ∙ found.1)
 
 pub six-only : (ds : List ℕ) (n : ℕ) → read_six ds ≡ Some n → (n < 1000000) × (ds ≡ six_digits n)
 unfolding read_six
 six-only ds n e =
-    let t = tested (length ds == 6 && are_digits ds) (Some (six_value ds)) n e in
+    let t = cond-some (length ds == 6 && are_digits ds) (Some (six_value ds)) n e in
     let tests = and_parts (length ds == 6) (are_digits ds) t.0 in
     let same : six_value ds ≡ n = let v = t.1 in cc in
     six_of ds n (eqb-true (length ds) 6 tests.0) tests.1 same
@@ -392,12 +365,12 @@ unfolding part_text
 numbered-only [] part e = absurd cc
 numbered-only (b ∷ ds) part e = elim (cases_Bool (b == 99)) [
   | inl chunk ↦
-      let read = mapped (read_six ds) Chunk part (rw chunk at e) in
+      let read = map-some (read_six ds) Chunk part (rw chunk at e) in
       let six = six-only ds read.0 read.1 in
       chunk_is b read.0 ds part (eqb-true b 99 chunk) six.0 six.1 read.2
   | inr other ↦ elim (cases_Bool (b == 109)) [
     | inl mark ↦
-        let read = mapped (read_six ds) Mark part (rw (other, mark) at e) in
+        let read = map-some (read_six ds) Mark part (rw (other, mark) at e) in
         let six = six-only ds read.0 read.1 in
         mark_is b read.0 ds part (eqb-true b 109 mark) six.0 six.1 read.2
     | inr none ↦ let never = rw (other, none) at e in absurd (cc)

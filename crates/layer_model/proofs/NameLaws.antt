@@ -1,12 +1,15 @@
 -- Names of objects, both ways.
-use Rattle.std.proofs.Common.{◌≡◌, ℕ, ◌<◌, ◌^◌, true, List, ◌∷◌, ◌++◌, Option, Some, None, refl, sym, ap, subst, ◌∙◌}
+use Rattle.std.proofs.Common.{◌≡◌, ℕ, ◌<◌, ◌^◌, List, ◌∷◌, ◌++◌, Option, Some, None, refl, sym, ap, subst, ◌∙◌}
 use Rattle.std.specs.Prelude.{IfOk, Result, Ok, Err}
 use Rattle.mvcc_keys.specs.Times.{Time, IsTime}
-use Rattle.table_descriptors.specs.Names.{is_name, name_of}
+use Rattle.table_descriptors.specs.Names.{name_of}
 use Rattle.layer_model.specs.declared.names.ObjectName.{ObjectName}
 use Rattle.layer_model.specs.declared.reading.Numbers.{Numbers}
-use Rattle.layer_model.specs.Names.{IsNameOf, IsNumbered, IsObjectName, NamesAreExact, NamesDiffer, ◌>>=◌, job_digits, object_name, object_of, part_text, read_job, read_job_field, read_name, read_numbers, read_part, read_time, read_time_field, read_word, time_digits}
-use Rattle.layer_model.proofs.FieldTexts.{bound, job-found, job-only, job_has_no_point, name_has_no_point, part-found, part-only, some_pair, tested, time-found, time-only, time_has_no_point, word-found, word-only}
+use Rattle.layer_model.specs.Names.{IsNameOf, IsNumbered, IsObjectName, NamesAreExact, NamesDiffer, job_digits, object_name, object_of, part_text, read_job, read_job_field, read_name, read_numbers, read_part, read_time, read_time_field, read_word, time_digits}
+use Rattle.list_laws.specs.Options.{◌>>=◌}
+use Rattle.layer_model.proofs.FieldTexts.{job-found, job-only, job_has_no_point, name_has_no_point, part-found, part-only, time-found, time-only, time_has_no_point, word-found, word-only}
+use Rattle.list_laws.proofs.Options.{bind-some, some-parts}
+use Rattle.table_descriptors.proofs.Ascii.{name_of-some}
 
 -- ---- one field and its point
 
@@ -20,9 +23,9 @@ moved P a b c d e f h = rw (← e, ← f) h
 time_field-only : (b : List ℕ) (t : Time) (r : List ℕ) → read_time_field b ≡ Some (t, r) → IsTime t × (b ≡ time_digits t ++ 46 ∷ r)
 unfolding read_time_field
 time_field-only b t r e =
-    let word = bound (read_word b) (λ w. read_time w.0 >>= (λ s. Some (s, w.1))) (t, r) e in
-    let time = bound (read_time word.0.0) (λ s. Some (s, word.0.1)) (t, r) word.2 in
-    let parts = some_pair time.0 t word.0.1 r time.2 in
+    let word = bind-some (read_word b) (λ w. read_time w.0 >>= (λ s. Some (s, w.1))) (t, r) e in
+    let time = bind-some (read_time word.0.0) (λ s. Some (s, word.0.1)) (t, r) word.2 in
+    let parts = some-parts time.0 t word.0.1 r time.2 in
     let only = time-only word.0.0 time.0 time.1 in
     moved (λ s q. IsTime s × (b ≡ time_digits s ++ 46 ∷ q)) time.0 t word.0.1 r parts.0 parts.1 (only.0, word-only b word.0.0 word.0.1 word.1 ∙ ap (λ (x : List ℕ). x ++ 46 ∷ word.0.1) only.1)
 
@@ -33,9 +36,9 @@ job_field-found n r h = rw (word-found (job_digits n) r (job_has_no_point n), jo
 job_field-only : (b : List ℕ) (n : ℕ) (r : List ℕ) → read_job_field b ≡ Some (n, r) → (n < 2 ^ 32) × (b ≡ job_digits n ++ 46 ∷ r)
 unfolding read_job_field
 job_field-only b n r e =
-    let word = bound (read_word b) (λ w. read_job w.0 >>= (λ s. Some (s, w.1))) (n, r) e in
-    let job = bound (read_job word.0.0) (λ s. Some (s, word.0.1)) (n, r) word.2 in
-    let parts = some_pair job.0 n word.0.1 r job.2 in
+    let word = bind-some (read_word b) (λ w. read_job w.0 >>= (λ s. Some (s, w.1))) (n, r) e in
+    let job = bind-some (read_job word.0.0) (λ s. Some (s, word.0.1)) (n, r) word.2 in
+    let parts = some-parts job.0 n word.0.1 r job.2 in
     let only = job-only word.0.0 job.0 job.1 in
     moved (λ s q. (s < 2 ^ 32) × (b ≡ job_digits s ++ 46 ∷ q)) job.0 n word.0.1 r parts.0 parts.1 (only.0, word-only b word.0.0 word.0.1 word.1 ∙ ap (λ (x : List ℕ). x ++ 46 ∷ word.0.1) only.1)
 
@@ -62,11 +65,11 @@ numbers_joined n b after_full after_start after_end after_job f s d j p = rw (f,
 numbers-only : (b : List ℕ) (n : Numbers) → read_numbers b ≡ Some n → AreNumbers n × (b ≡ numbers_text n)
 unfolding read_numbers
 numbers-only b n e =
-    let full = bound (read_time_field b) _ n e in
-    let start = bound (read_time_field full.0.1) _ n full.2 in
-    let end = bound (read_time_field start.0.1) _ n start.2 in
-    let job = bound (read_job_field end.0.1) _ n end.2 in
-    let part = bound (read_part job.0.1) _ n job.2 in
+    let full = bind-some (read_time_field b) _ n e in
+    let start = bind-some (read_time_field full.0.1) _ n full.2 in
+    let end = bind-some (read_time_field start.0.1) _ n start.2 in
+    let job = bind-some (read_job_field end.0.1) _ n end.2 in
+    let part = bind-some (read_part job.0.1) _ n job.2 in
     let f = time_field-only b full.0.0 full.0.1 full.1 in
     let s = time_field-only full.0.1 start.0.0 start.0.1 start.1 in
     let d = time_field-only start.0.1 end.0.0 end.0.1 end.1 in
@@ -78,12 +81,6 @@ numbers-only b n e =
     subst (λ m. AreNumbers m × (b ≡ numbers_text m)) same (record { full = f.0; start = s.0; end = d.0; job = j.0; part = p.0 }, text)
 
 -- ---- names
-
-named : (bs n : List ℕ) → name_of bs ≡ Some n → (is_name n ≡ true) × (bs ≡ n)
-named bs n e =
-    let t = tested (is_name bs) (Some bs) n e in
-    let same : bs ≡ n = let some = t.1 in cc in
-    (subst (λ w. is_name w ≡ true) same t.0, same)
 
 name_joined : (n : Numbers) (text w v after_w after_v collection cluster : List ℕ) → text ≡ w ++ 46 ∷ after_w → after_w ≡ v ++ 46 ∷ after_v → w ≡ collection → v ≡ cluster → after_v ≡ numbers_text n → text ≡ collection ++ 46 ∷ (cluster ++ 46 ∷ numbers_text n)
 name_joined n text w v after_w after_v collection cluster first second c k r = rw (first, second, c, k, r) refl
@@ -99,13 +96,13 @@ name-found n is =
 pub name-only : (text : List ℕ) (n : ObjectName) → read_name text ≡ Some n → IsObjectName n × (text ≡ object_name n.layer n.part)
 unfolding read_name object_name
 name-only text n e =
-    let first = bound (read_word text) _ n e in
-    let second = bound (read_word first.0.1) _ n first.2 in
-    let numbers = bound (read_numbers second.0.1) _ n second.2 in
-    let collection = bound (name_of first.0.0) _ n numbers.2 in
-    let cluster = bound (name_of second.0.0) _ n collection.2 in
-    let c = named first.0.0 collection.0 collection.1 in
-    let k = named second.0.0 cluster.0 cluster.1 in
+    let first = bind-some (read_word text) _ n e in
+    let second = bind-some (read_word first.0.1) _ n first.2 in
+    let numbers = bind-some (read_numbers second.0.1) _ n second.2 in
+    let collection = bind-some (name_of first.0.0) _ n numbers.2 in
+    let cluster = bind-some (name_of second.0.0) _ n collection.2 in
+    let c = name_of-some first.0.0 collection.0 collection.1 in
+    let k = name_of-some second.0.0 cluster.0 cluster.1 in
     let v = numbers-only second.0.1 numbers.0 numbers.1 in
     let same : object_of collection.0 cluster.0 numbers.0 ≡ n = let is = cluster.2 in cc in
     let h = v.0 in

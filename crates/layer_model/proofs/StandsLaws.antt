@@ -14,6 +14,7 @@ use Rattle.layer_model.specs.Layers.{Has, IsLayer, IsOpen, IsOutside, IsPartName
 use Rattle.layer_model.specs.Stands.{EmptyStands, IsLocal, IsOpenName, IsProper, LawOfOneLayer, Setting, StandsBy}
 use Rattle.layer_model.proofs.NameLaws.{name-only, names-differ}
 use Rattle.layer_model.proofs.LayerLaws.{has_or, part_is_numbered}
+use Rattle.list_laws.proofs.Options.{none-some}
 
 -- objects with one name are one object
 pub one_object : (m n : LayerName) (p q : Part) → IsLayerName m → IsLayerName n → IsNumbered p → IsNumbered q → object_name m p ≡ object_name n q → (m ≡ n) × (p ≡ q)
@@ -120,19 +121,16 @@ stands_as_source Safe local F s proper w among source image stands within elsewh
 no_member : {X : Type 0} (xs : List X) (x : X) → xs ≡ [] → Contains xs x → ⊥
 no_member xs x none h = let short : length xs ≡ 0 = ap length none in absurd (omega (arith, h.1, short))
 
-nothing_there : {X : Type 0} (o : Option X) (x : X) → o ≡ None → o ≡ Some x → ⊥
-nothing_there o x none some = let e : None ≡ Some x = sym none ∙ some in cc
-
 chunk_there : (w : Layer) (i : ℕ) → i < length w.chunks → (o : Option (List ℕ)) → o ≡ None → o ≡ option_map sha256 (slice_get w.chunks i) → ⊥
-chunk_there w i lt o none some = nothing_there o _ none (some ∙ ap (option_map sha256) (slice_get-get_or w.chunks i [] lt))
+chunk_there w i lt o none some = none-some o _ none (some ∙ ap (option_map sha256) (slice_get-get_or w.chunks i [] lt))
 
 pub empty_stands : EmptyStands
 empty_stands s none objects nothing = record {
   foreign_filled = λ w is. absurd (no_member s.foreign w none is);
-  foreign_only = λ n h ne is_open. absurd (nothing_there _ _ (nothing _) is_open);
-  finished = λ n h own is_open. absurd (nothing_there _ _ (nothing _) is_open);
+  foreign_only = λ n h ne is_open. absurd (none-some _ _ (nothing _) is_open);
+  finished = λ n h own is_open. absurd (none-some _ _ (nothing _) is_open);
   safe = λ w is. record {
-    open_whole = λ is_open. absurd (nothing_there _ _ (nothing _) is_open);
+    open_whole = λ is_open. absurd (none-some _ _ (nothing _) is_open);
     marked = λ i lt holds. absurd (chunk_there w i lt _ (nothing _) holds);
   };
   belongs = λ n text read own there. absurd (there (nothing text));

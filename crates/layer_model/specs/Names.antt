@@ -13,6 +13,7 @@ use Rattle.layer_model.specs.declared.names.ObjectName.{ObjectName}
 use Rattle.layer_model.specs.declared.names.Part.{Part}
 use Rattle.layer_model.specs.declared.names.Part.TheVariants.{Gate, Manifest, Chunk, Mark}
 use Rattle.layer_model.specs.declared.reading.Numbers.{Numbers}
+use Rattle.list_laws.specs.Options.{◌>>=◌}
 
 -- ---- spelling
 
@@ -60,11 +61,6 @@ pub record IsLayerName (n : LayerName) : Type 0 where
   pub job : n.job < 2 ^ 32
 
 -- ---- reading
-
-infixl 10 ◌>>=◌
-abbrev pub ◌>>=◌ : {A B : Type 0} → Option A → (A → Option B) → Option B
-(Some x) >>= f = f x
-None >>= f = None
 
 abbrev pub is_no_point : ℕ → Bool
 is_no_point b = not (b == 46)

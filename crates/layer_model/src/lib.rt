@@ -13,6 +13,3 @@ pub use laws::{
 pub use names::{LayerName, ObjectName, Part};
 pub use reading::read_name;
 pub use writing::{part_name, write_name};
-
-#[cfg(test)]
-mod tests;

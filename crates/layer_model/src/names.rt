@@ -5,7 +5,7 @@ ghost use Rattle.layer_model.specs.Names.{IsLayerName, IsNumbered};
 
 use mvcc_keys::{Hlc, Memory};
 use std::alloc::Global;
-use table_descriptors::Name;
+use table_descriptors::{CHUNKS_MAX, Name};
 
 /// The layer of a backup from a start to an end, in the subdirectory of a cluster and a full
 /// backup's end.
@@ -69,7 +69,7 @@ impl Part {
     {
         match self {
             Part::Gate | Part::Manifest => true,
-            Part::Chunk(n) | Part::Mark(n) => n < 1000000,
+            Part::Chunk(n) | Part::Mark(n) => n < CHUNKS_MAX,
         }
     }
 }

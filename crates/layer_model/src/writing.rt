@@ -22,7 +22,7 @@ fn job_digits(alloc: Global, job: u32) -> Result<String, Memory>
 }
 
 /// `c` or `m`, and six digits.
-fn numbered(alloc: Global, letter: &str, n: u32) -> Result<String, Memory>
+fn number_text(alloc: Global, letter: &str, n: u32) -> Result<String, Memory>
     ensures { IfOk result (λ s. string_bytes s ≡ letter.now ++ six_digits n) }
 {
     let (a, b, c) = (n / 100000 % 10, n / 10000 % 10, n / 1000 % 10);
@@ -37,8 +37,8 @@ fn part_text(alloc: Global, part: Part) -> Result<String, Memory>
     match part {
         Part::Gate => Ok(String::from_str(alloc, "gate")?),
         Part::Manifest => Ok(String::from_str(alloc, "manifest")?),
-        Part::Chunk(n) => numbered(alloc, "c", n),
-        Part::Mark(n) => numbered(alloc, "m", n),
+        Part::Chunk(n) => number_text(alloc, "c", n),
+        Part::Mark(n) => number_text(alloc, "m", n),
     }
 }
 

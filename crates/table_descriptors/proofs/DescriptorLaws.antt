@@ -26,8 +26,9 @@ use Rattle.table_descriptors.specs.declared.columns.Column.{Column}
 use Rattle.table_descriptors.specs.declared.columns.State.{State}
 use Rattle.table_descriptors.specs.declared.columns.State.TheVariants.{Public, Offline, Dropped}
 use Rattle.table_descriptors.proofs.FieldLaws.{then-format, made-format, such-format, list-format, id-format, count-format, name-format, time-format, byte-format, flag-format, ok_parts}
-use Rattle.table_descriptors.proofs.ListLaws.{both_false, not-true, each-and, each-weaker, each-all, all-each, each-ascends, ascends-each, each-new, differs-each, is_again, eq-flip, bytes_eq-flip, list_all-weaker}
+use Rattle.table_descriptors.proofs.ListLaws.{each-and, each-weaker, each-all, all-each, each-ascends, ascends-each, each-new, differs-each, is_again, eq-flip, bytes_eq-flip, list_all-weaker}
 use Rattle.table_descriptors.proofs.SchemaLaws.{directed-down, down-directed, directed-ids, down-kept, ascends-below}
+use Rattle.list_laws.proofs.Bools.{and-false, or-neither, not-true}
 
 -- ---- marks
 
@@ -45,7 +46,7 @@ form-back n x e =
       ]
     ]
 
-form-format : IsFormat (λ _. Unit {0}) (λ b. form_code b ∷ []) (read_byte form_of)
+pub form-format : IsFormat (λ _. Unit {0}) (λ b. form_code b ∷ []) (read_byte form_of)
 form-format = byte-format (λ _. Unit {0}) form_of form_code form-code form-back
 
 state-code : (x : State) → Unit {0} → state_of (state_code x) ≡ Some x
@@ -66,7 +67,7 @@ state-back n x e =
       ]
     ]
 
-state-format : IsFormat (λ _. Unit {0}) (λ s. state_code s ∷ []) (read_byte state_of)
+pub state-format : IsFormat (λ _. Unit {0}) (λ s. state_code s ∷ []) (read_byte state_of)
 state-format = byte-format (λ _. Unit {0}) state_of state_code state-code state-back
 
 kind-code : (x : Kind) → is_upright x ≡ true → kind_at (kind_code x) ≡ Some x
@@ -95,7 +96,7 @@ kind-back n x e =
       ]
     ]
 
-kind-format : IsFormat (λ k. is_upright k ≡ true) (λ k. kind_code k ∷ []) (read_byte kind_at)
+pub kind-format : IsFormat (λ k. is_upright k ≡ true) (λ k. kind_code k ∷ []) (read_byte kind_at)
 kind-format = byte-format (λ k. is_upright k ≡ true) kind_at kind_code kind-code kind-back
 
 -- ---- columns
@@ -195,10 +196,6 @@ keys-repeat (k ∷ keys) = rw (keys-any k keys, keys-repeat keys) refl
     keys-any : (k : ℕ × Bool) (keys : List (ℕ × Bool)) → list_any (λ y. same_key y k) keys ≡ list_any (λ x. x == key_id k) (map key_id keys)
     keys-any k [] = refl
     keys-any k (y ∷ keys) = ap (λ b. same_key y k || b) (keys-any k keys)
-
-and-false : (a : Bool) → (a && false) ≡ false
-and-false true = refl
-and-false false = refl
 
 -- where some key column descends, the last has to if none before it does
 directions-each : (count : ℕ) (before keys : List (ℕ × Bool)) → length before + length keys ≡ count → (list_any is_down before || list_any is_down keys) ≡ true
@@ -360,11 +357,11 @@ ids-fit d h = list_all-weaker (λ (c : Column). nat_lt (column_id c) d.next_colu
 ids-distinct : (ids : List ℕ) → repeats_id ids ≡ false → IsDistinct ◌==◌ ids
 unfolding IsDistinct
 ids-distinct [] h = tt
-ids-distinct (x ∷ ids) h = let parts = both_false (has_id x ids) (repeats_id ids) h in (others ids parts.0, ids-distinct ids parts.1)
+ids-distinct (x ∷ ids) h = let parts = or-neither (has_id x ids) (repeats_id ids) h in (others ids parts.0, ids-distinct ids parts.1)
   where
     others : (ys : List ℕ) → has_id x ys ≡ false → AllByRecursion (λ y. (x == y) ≡ false) ys
     others [] e = tt
-    others (y ∷ ys) e = let both = both_false (y == x) (has_id x ys) e in (eq-flip y x ∙ both.0, others ys both.1)
+    others (y ∷ ys) e = let both = or-neither (y == x) (has_id x ys) e in (eq-flip y x ∙ both.0, others ys both.1)
 
 ids-below : (q : ℕ) (ids : List ℕ) → list_all is_id ids ≡ true → list_any (λ x. q == x) ids ≡ true → q < 2 ^ 32
 ids-below q [] h is = absurd (cc)

@@ -6,8 +6,8 @@ use Rattle.std.proofs.lemmas.Bool.Decides.{nat_tests}
 use Rattle.std.proofs.lemmas.List.{length-map}
 use Rattle.key_encoding.specs.Spelling.{uvarint, byte_count}
 use Rattle.key_encoding.proofs.Digits.{length_high}
-use Rattle.mvcc_keys.specs.Times.{Time}
-use Rattle.mvcc_keys.specs.Codes.{bytes64, bytes32, time_bytes}
+use Rattle.mvcc_keys.specs.Codes.{time_bytes}
+use Rattle.mvcc_keys.proofs.CodeLaws.{length-time_bytes}
 use Rattle.row_codec.specs.RowValues.{sized}
 use Rattle.row_codec.proofs.KeyOrder.{both_true}
 use Rattle.table_descriptors.specs.Names.{is_name, is_name_text}
@@ -63,10 +63,6 @@ key-length descends k =
     let back = direction-length descends k.1 in
     omega (arith, length-append (uvarint k.0) (direction_code descends k.1))
 
-time-length : (t : Time) → length (time_bytes t) ≡ 12
-unfolding time_bytes bytes64 bytes32
-time-length t = length-append (bytes64 t.wall) (bytes32 t.logical)
-
 list-length : {X : Type 0} (code : X → List ℕ) (ok : X → Bool) (m : ℕ) → ((x : X) → ok x ≡ true → length (code x) ≤ m) → (xs : List X) → list_all ok xs ≡ true → length (list_code code xs) ≤ 9 + length xs * m
 list-length code ok m each xs h =
     let front = number-length (length xs) in
@@ -85,7 +81,7 @@ schema-length d h =
     let some_references = ids-few d.references h.references h.once in
     let names = both-length (sized d.database) (sized d.name ++ state_code d.state ∷ []) (name-length d.database h.database) (both-length {n = 1} (sized d.name) (state_code d.state ∷ []) (name-length d.name h.name) (omega arith)) in
     let front = both-length (uvarint d.id) (uvarint d.version ++ names_code d) (number-length d.id) (both-length (uvarint d.version) (names_code d) (number-length d.version) names) in
-    let last = both-length {n = 12} (uvarint d.next_column) (time_bytes d.modified) (number-length d.next_column) (let is = time-length d.modified in omega arith) in
+    let last = both-length {n = 12} (uvarint d.next_column) (time_bytes d.modified) (number-length d.next_column) (let is = length-time_bytes d.modified in omega arith) in
     let after = both-length (list_code uvarint d.references) (uvarint d.next_column ++ time_bytes d.modified) references last in
     let more = both-length (list_code (key_code (descends d)) (directed d.down d.key_columns)) (list_code uvarint d.references ++ (uvarint d.next_column ++ time_bytes d.modified)) keys after in
     let back = both-length (list_code column_code d.columns) (list_code (key_code (descends d)) (directed d.down d.key_columns) ++ (list_code uvarint d.references ++ (uvarint d.next_column ++ time_bytes d.modified))) columns more in

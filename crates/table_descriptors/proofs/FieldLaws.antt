@@ -4,17 +4,20 @@ use Rattle.std.proofs.lemmas.Bool.{cases_Bool}
 use Rattle.std.proofs.lemmas.Bool.Decides.{nat_tests}
 use Rattle.std.proofs.lemmas.List.{take_at, drop_at, take-append-drop, length-take-le}
 use Rattle.key_encoding.specs.Coding.{IsWord}
+use Rattle.list_laws.specs.Bytes.{AreBytes}
 use Rattle.key_encoding.specs.Spelling.{uvarint}
 use Rattle.key_encoding.specs.Reading.{read_uvarint}
 use Rattle.key_encoding.specs.declared.fault.KeyFault.{KeyFault}
 use Rattle.key_encoding.proofs.Grammars.{uvarint-found, uvarint-only}
 use Rattle.mvcc_keys.specs.Times.{IsTime}
-use Rattle.mvcc_keys.specs.Codes.{AreBytes, time_bytes, read_time_bytes}
+use Rattle.mvcc_keys.specs.Codes.{time_bytes, read_time_bytes}
 use Rattle.mvcc_keys.proofs.CodeLaws.{time_bytes-exact}
 use Rattle.row_codec.specs.RowValues.{sized}
-use Rattle.row_codec.proofs.KeyLaws.{pair_parts, some_is, bytes-after}
+use Rattle.row_codec.proofs.KeyLaws.{pair_parts, some_is}
 use Rattle.table_descriptors.specs.Names.{is_name}
 use Rattle.table_descriptors.specs.Fields.{IsFormat, and_value, and_next, ◌then◌, made_of, tested, such, begun_at, item, codes_of, EachAfter, read_on, read_items, or_left, number_or, read_number, is_id, read_id, is_count, read_count, read_exactly, read_sized, read_name, read_time, with_rest, read_byte, flag_of, flag_code, list_code, read_list, whole}
+use Rattle.list_laws.proofs.Bytes.{bytes-after}
+use Rattle.list_laws.proofs.Places.{none-left_test}
 
 -- ---- one field after another
 
@@ -237,17 +240,13 @@ list-format {X} {P} {code} {one} ok f = made-format (λ xs. (IsWord (length xs) 
 
 -- ---- whole inputs
 
-no-bytes : (r : List ℕ) → nat_eq (length r) 0 ≡ true → r ≡ []
-no-bytes [] h = refl
-no-bytes (x ∷ r) h = let e : suc (length r) ≡ 0 = grind (arith, nat_tests) in absurd (omega arith)
-
 whole-ok : {X : Type 0} (len : ℕ) (o : Result (X × List ℕ) ℕ) (x : X) → whole len o ≡ Ok x → o ≡ Ok (x, [])
 whole-ok {X} len (Ok p) x e =
     elim (cases_Bool (nat_eq (length p.1) 0)) [
       | inl t ↦
           let same : (let w : Result X ℕ = Ok p.0 in w) ≡ Ok x = rw t at e in
           let value : p.0 ≡ x = cc in
-          ap (λ (y : X). let w : Result (X × List ℕ) ℕ = Ok (y, p.1) in w) value ∙ ap (λ (r : List ℕ). let w : Result (X × List ℕ) ℕ = Ok (x, r) in w) (no-bytes p.1 t)
+          ap (λ (y : X). let w : Result (X × List ℕ) ℕ = Ok (y, p.1) in w) value ∙ ap (λ (r : List ℕ). let w : Result (X × List ℕ) ℕ = Ok (x, r) in w) (none-left_test p.1 t)
       | inr f ↦ let e' = rw f at e in absurd (cc)
     ]
 whole-ok len (Err left) x e = absurd (cc)

@@ -5,3 +5,5 @@ pub mod SchemaLaws
 pub mod DescriptorLaws
 pub mod DescriptorLengths
 pub mod Restores
+pub mod FieldWalks
+pub mod DescriptorWalks

@@ -1,7 +1,7 @@
 -- Lists whose items have to do with those before them.
-use Rattle.std.proofs.Common.{◌≡◌, ℕ, suc, ◌-◌, ◌<◌, Bool, true, false, List, [], ◌∷◌, ◌++◌, length, get_or, nat_lt, Some, arith, refl, sym, ap, ◌∙◌, append_assoc, append-nil, length-append}
-use Rattle.std.specs.Prelude.{◌||◌, ◌==◌, not}
-use Rattle.std.specs.List.{list_any, list_all, slice_get}
+use Rattle.std.proofs.Common.{◌≡◌, ℕ, suc, ◌-◌, ◌<◌, Bool, true, false, List, [], ◌∷◌, ◌++◌, length, get_or, nat_lt, arith, refl, sym, ap, ◌∙◌, append_assoc, append-nil, length-append}
+use Rattle.std.specs.Prelude.{◌||◌, ◌==◌}
+use Rattle.std.specs.List.{list_any, list_all}
 use Rattle.std.proofs.lemmas.Bool.Decides.{nat_tests, same_from_decides, Decides-eqb}
 use Rattle.std.proofs.lemmas.Slice.Eq.{bytes_eq-Decides}
 use Rattle.std.specs.Str.{bytes_eq}
@@ -9,25 +9,15 @@ use Rattle.std.proofs.lemmas.List.Folds.{list_any-append}
 use Rattle.row_codec.proofs.KeyOrder.{both_true}
 use Rattle.table_descriptors.specs.Fields.{EachAfter}
 use Rattle.table_descriptors.specs.Descriptors.{repeats, last_key, ascends}
+use Rattle.list_laws.proofs.Bools.{or-false, or-neither}
+use Rattle.list_laws.proofs.Places.{got-last}
 
 -- ---- tests
 
-pub both_false : (a b : Bool) → (a || b) ≡ false → (a ≡ false) × (b ≡ false)
-both_false true b h = absurd (cc)
-both_false false b h = (refl, h)
-
-pub not-true : (a : Bool) → not a ≡ true → a ≡ false
-not-true true h = absurd (cc)
-not-true false h = refl
-
 -- ---- the last one
 
-last-got : {X : Type 0} (xs : List X) (x : X) → slice_get (xs ++ x ∷ []) (length xs) ≡ Some x
-last-got [] x = refl
-last-got (y ∷ xs) x = last-got xs x
-
 pub last-push : {X : Type 0} (key : X → ℕ) (xs : List X) (x : X) → last_key key (xs ++ x ∷ []) ≡ key x
-last-push key xs x = let at : length (xs ++ x ∷ []) - 1 ≡ length xs = omega (arith, length-append xs (x ∷ [])) in rw (at, last-got xs x) refl
+last-push key xs x = let at : length (xs ++ x ∷ []) - 1 ≡ length xs = omega (arith, length-append xs (x ∷ [])) in rw (at, got-last xs x) refl
 
 pub last-cons : {X : Type 0} (key : X → ℕ) (x y : X) (ys : List X) → last_key key (x ∷ y ∷ ys) ≡ last_key key (y ∷ ys)
 last-cons key x y ys =
@@ -81,25 +71,21 @@ is_again like before x = list_any (λ y. like y x) before
 any-or : {X : Type 0} (f g : X → Bool) (xs : List X) → list_any f xs ≡ false → list_any g xs ≡ false → list_any (λ x. f x || g x) xs ≡ false
 any-or f g [] a b = refl
 any-or f g (x ∷ xs) a b =
-    let fs = both_false (f x) (list_any f xs) a in
-    let gs = both_false (g x) (list_any g xs) b in
+    let fs = or-neither (f x) (list_any f xs) a in
+    let gs = or-neither (g x) (list_any g xs) b in
     rw (fs.0, gs.0) (any-or f g xs fs.1 gs.1)
 
 or-any : {X : Type 0} (f g : X → Bool) (xs : List X) → list_any (λ x. f x || g x) xs ≡ false → (list_any f xs ≡ false) × (list_any g xs ≡ false)
 or-any f g [] a = (refl, refl)
 or-any f g (x ∷ xs) a =
-    let parts = both_false (f x || g x) (list_any (λ y. f y || g y) xs) a in
-    let one = both_false (f x) (g x) parts.0 in
+    let parts = or-neither (f x || g x) (list_any (λ y. f y || g y) xs) a in
+    let one = or-neither (f x) (g x) parts.0 in
     let rest = or-any f g xs parts.1 in
     (rw one.0 rest.0, rw one.1 rest.1)
 
 pub any-same : {X : Type 0} (f g : X → Bool) (xs : List X) → ((x : X) → f x ≡ g x) → list_any f xs ≡ list_any g xs
 any-same f g [] e = refl
 any-same f g (x ∷ xs) e = rw (e x, any-same f g xs e) refl
-
-or-false : (a : Bool) → (a || false) ≡ a
-or-false true = refl
-or-false false = refl
 
 again-push : {X : Type 0} (like : X → X → Bool) (before : List X) (x z : X) → is_again like (before ++ x ∷ []) z ≡ (is_again like before z || like x z)
 again-push like before x z = list_any-append (λ y. like y z) before (x ∷ []) ∙ ap (λ b. is_again like before z || b) (or-false (like x z))
@@ -108,8 +94,8 @@ pub each-differs : {X : Type 0} (same like : X → X → Bool) → ((x y : X) �
     → EachAfter (λ b x. is_again like b x ≡ false) before xs
 each-differs same like flip before [] r h = tt
 each-differs same like flip before (x ∷ xs) r h =
-    let other = both_false (list_any (λ y. same y x) xs) (repeats same xs) r in
-    let here = both_false (is_again like before x) (list_any (is_again like before) xs) h in
+    let other = or-neither (list_any (λ y. same y x) xs) (repeats same xs) r in
+    let here = or-neither (is_again like before x) (list_any (is_again like before) xs) h in
     let new : list_any (λ z. like x z) xs ≡ false = any-same (λ z. like x z) (λ z. same z x) xs (λ z. flip z x) ∙ other.0 in (
       here.0,
       each-differs same like flip (before ++ x ∷ []) xs other.1
@@ -135,14 +121,6 @@ each-new same like flip xs r = each-differs same like flip [] xs r (none-again l
 pub list_all-weaker : {X : Type 0} (f g : X → Bool) → ((x : X) → f x ≡ true → g x ≡ true) → (xs : List X) → list_all f xs ≡ true → list_all g xs ≡ true
 list_all-weaker f g w [] h = refl
 list_all-weaker f g w (x ∷ xs) h = let parts = both_true (f x) (list_all f xs) h in rw (w x parts.0) (list_all-weaker f g w xs parts.1)
-
-pub or-left : (a b : Bool) → a ≡ true → (a || b) ≡ true
-or-left true b h = refl
-or-left false b h = absurd (cc)
-
-pub or-right : (a b : Bool) → b ≡ true → (a || b) ≡ true
-or-right true b h = refl
-or-right false b h = h
 
 pub eq-flip : (x y : ℕ) → (y == x) ≡ (x == y)
 eq-flip x y = same_from_decides (y == x) (x == y) (Decides-eqb y x) ((λ e. sym ((Decides-eqb x y).0 e)), (λ e. (Decides-eqb x y).1 (sym e)))

@@ -19,7 +19,9 @@ use Rattle.table_descriptors.specs.DescriptorFiles.{directed, key_id, down_of}
 use Rattle.table_descriptors.specs.declared.changes.Change.{Change}
 use Rattle.table_descriptors.specs.declared.changes.Change.TheVariants.{Add, Remove, RenameColumn, Rename, Become}
 use Rattle.table_descriptors.specs.declared.columns.Column.{Column}
-use Rattle.table_descriptors.proofs.ListLaws.{both_false, last-below, last-push, last-cons, list_all-weaker, or-left, or-right, eq-flip, bytes_eq-flip, each-push, each-ascends, ascends-each, each-new, differs-each, is_again}
+use Rattle.table_descriptors.proofs.ListLaws.{last-below, last-push, last-cons, list_all-weaker, eq-flip, bytes_eq-flip, each-push, each-ascends, ascends-each, each-new, differs-each, is_again}
+use Rattle.list_laws.proofs.Bools.{or-neither, or-left, or-right}
+use Rattle.list_laws.proofs.Filters.{filter-fewer}
 
 -- ---- new columns
 
@@ -112,7 +114,7 @@ id-new : (cs : List (List ℕ × Kind)) (k : List ℕ × Bool) (key : Keys) → 
 id-new cs k [] hk h r = refl
 id-new cs k (y ∷ key) hk h r =
     let parts = both_true (has y.0 cs) (are_columns cs key) h in
-    let other = both_false (bytes_eq y.0 k.0) (list_any (λ z. bytes_eq z.0 k.0) key) r in
+    let other = or-neither (bytes_eq y.0 k.0) (list_any (λ z. bytes_eq z.0 k.0) key) r in
     elim (cases_Bool (id_of cs y.0 == id_of cs k.0)) [
       | inl t ↦
           let same : id_of cs y.0 ≡ id_of cs k.0 = grind (arith, nat_tests) in
@@ -126,20 +128,20 @@ pub ids-differ : (cs : List (List ℕ × Kind)) (key : Keys) → are_columns cs 
 ids-differ cs [] h r = refl
 ids-differ cs (k ∷ key) h r =
     let parts = both_true (has k.0 cs) (are_columns cs key) h in
-    let other = both_false (list_any (λ y. bytes_eq y.0 k.0) key) (repeats_key_column key) r in
+    let other = or-neither (list_any (λ y. bytes_eq y.0 k.0) key) (repeats_key_column key) r in
     rw (id-new cs k key parts.0 parts.1 other.0) (ids-differ cs key parts.1 other.1)
 
 -- ---- directions
 
 down-absent : (id : ℕ) (ks : List (ℕ × Bool)) → has_id id (map key_id ks) ≡ false → has_id id (down_of ks) ≡ false
 down-absent id [] h = refl
-down-absent id ((i, false) ∷ ks) h = down-absent id ks (both_false (i == id) (has_id id (map key_id ks)) h).1
-down-absent id ((i, true) ∷ ks) h = let parts = both_false (i == id) (has_id id (map key_id ks)) h in rw parts.0 (down-absent id ks parts.1)
+down-absent id ((i, false) ∷ ks) h = down-absent id ks (or-neither (i == id) (has_id id (map key_id ks)) h).1
+down-absent id ((i, true) ∷ ks) h = let parts = or-neither (i == id) (has_id id (map key_id ks)) h in rw parts.0 (down-absent id ks parts.1)
 
 directed-more : (i : ℕ) (down ids : List ℕ) → has_id i ids ≡ false → directed (i ∷ down) ids ≡ directed down ids
 directed-more i down [] h = refl
 directed-more i down (j ∷ ids) h =
-    let parts = both_false (j == i) (has_id i ids) h in
+    let parts = or-neither (j == i) (has_id i ids) h in
     let other : (i == j) ≡ false = eq-flip j i ∙ parts.0 in
     rw (other, directed-more i down ids parts.1) refl
 
@@ -147,10 +149,10 @@ directed-more i down (j ∷ ids) h =
 pub directed-down : (ks : List (ℕ × Bool)) → repeats_id (map key_id ks) ≡ false → directed (down_of ks) (map key_id ks) ≡ ks
 directed-down [] h = refl
 directed-down ((i, false) ∷ ks) h =
-    let parts = both_false (has_id i (map key_id ks)) (repeats_id (map key_id ks)) h in
+    let parts = or-neither (has_id i (map key_id ks)) (repeats_id (map key_id ks)) h in
     rw (down-absent i ks parts.0, directed-down ks parts.1) refl
 directed-down ((i, true) ∷ ks) h =
-    let parts = both_false (has_id i (map key_id ks)) (repeats_id (map key_id ks)) h in
+    let parts = or-neither (has_id i (map key_id ks)) (repeats_id (map key_id ks)) h in
     let same : (i == i) ≡ true = grind (arith, nat_tests) in
     rw (same, directed-more i (down_of ks) (map key_id ks) parts.0, directed-down ks parts.1) refl
 
@@ -265,18 +267,14 @@ all-filter f p (x ∷ xs) h =
 none-filter : {X : Type 0} (f p : X → Bool) (xs : List X) → list_any f xs ≡ false → list_any f (filter p xs) ≡ false
 none-filter f p [] h = refl
 none-filter f p (x ∷ xs) h =
-    let parts = both_false (f x) (list_any f xs) h in
+    let parts = or-neither (f x) (list_any f xs) h in
     elim (cases_Bool (p x)) [ inl t ↦ rw (t, parts.0) (none-filter f p xs parts.1) | inr n ↦ rw n (none-filter f p xs parts.1) ]
 
 repeats-filter : {X : Type 0} (same : X → X → Bool) (p : X → Bool) (xs : List X) → repeats same xs ≡ false → repeats same (filter p xs) ≡ false
 repeats-filter same p [] h = refl
 repeats-filter same p (x ∷ xs) h =
-    let parts = both_false (list_any (λ y. same y x) xs) (repeats same xs) h in
+    let parts = or-neither (list_any (λ y. same y x) xs) (repeats same xs) h in
     elim (cases_Bool (p x)) [ inl t ↦ rw (t, none-filter (λ y. same y x) p xs parts.0) (repeats-filter same p xs parts.1) | inr n ↦ rw n (repeats-filter same p xs parts.1) ]
-
-filter-fewer : {X : Type 0} (p : X → Bool) (xs : List X) → length (filter p xs) ≤ length xs
-filter-fewer p [] = omega arith
-filter-fewer p (x ∷ xs) = let rest = filter-fewer p xs in elim (cases_Bool (p x)) [ inl t ↦ rw t (omega arith) | inr n ↦ rw n (omega arith) ]
 
 ascends-lower : {X : Type 0} (key : X → ℕ) (n m : ℕ) (xs : List X) → n ≤ m → ascends key m xs ≡ true → ascends key n xs ≡ true
 ascends-lower key n m [] le h = refl
@@ -373,7 +371,7 @@ key-kept : (name key : List ℕ) (columns : List Column) (id : ℕ) → list_any
     → is_column id (filter (keeps name) columns) ≡ true
 key-kept name key [] id none has there = absurd (cc)
 key-kept name key (c ∷ columns) id none has there =
-    let parts = both_false (bytes_eq c.name name && has_id c.id key) (list_any (λ (e : Column). bytes_eq e.name name && has_id e.id key) columns) none in
+    let parts = or-neither (bytes_eq c.name name && has_id c.id key) (list_any (λ (e : Column). bytes_eq e.name name && has_id e.id key) columns) none in
     elim (cases_Bool (bytes_eq c.name name)) [
       | inr f ↦ elim (cases_Bool (c.id == id)) [
         | inl s ↦ rw (f, s) refl
@@ -458,15 +456,15 @@ renamed-none : (from to : List ℕ) (x : Column) (columns : List Column) → lis
     → list_any (λ y. same_name y (renamed from to x)) (map (renamed from to) columns) ≡ false
 renamed-none from to x [] h n nx = refl
 renamed-none from to x (y ∷ columns) h n nx =
-    let parts = both_false (same_name y x) (list_any (λ z. same_name z x) columns) h in
-    let others = both_false (bytes_eq y.name to) (has_column to columns) n in
+    let parts = or-neither (same_name y x) (list_any (λ z. same_name z x) columns) h in
+    let others = or-neither (bytes_eq y.name to) (has_column to columns) n in
     rw (renamed-apart from to y x parts.0 others.0 nx) (renamed-none from to x columns parts.1 others.1 nx)
 
 renamed-differ : (from to : List ℕ) (columns : List Column) → repeats same_name columns ≡ false → has_column to columns ≡ false → repeats same_name (map (renamed from to) columns) ≡ false
 renamed-differ from to [] h n = refl
 renamed-differ from to (x ∷ columns) h n =
-    let parts = both_false (list_any (λ z. same_name z x) columns) (repeats same_name columns) h in
-    let others = both_false (bytes_eq x.name to) (has_column to columns) n in
+    let parts = or-neither (list_any (λ z. same_name z x) columns) (repeats same_name columns) h in
+    let others = or-neither (bytes_eq x.name to) (has_column to columns) n in
     rw (renamed-none from to x columns parts.0 others.1 others.0) (renamed-differ from to columns parts.1 others.1)
 
 rename-follows : (columns : List Column) (key : List ℕ) (next : ℕ) (from to : List ℕ) → AreProperColumns columns → list_all (λ id. is_column id columns) key ≡ true → last_key column_id columns < next

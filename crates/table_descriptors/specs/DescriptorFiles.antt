@@ -5,7 +5,8 @@ use Rattle.std.specs.BTreeSet.{BTreeSet, contains}
 use Rattle.std.specs.Ordering.{nat_cmp}
 use Rattle.key_encoding.specs.Spelling.{uvarint}
 use Rattle.mvcc_keys.specs.Times.{Time}
-use Rattle.mvcc_keys.specs.Codes.{AreBytes, time_bytes}
+use Rattle.mvcc_keys.specs.Codes.{time_bytes}
+use Rattle.list_laws.specs.Bytes.{AreBytes}
 use Rattle.row_codec.specs.declared.rows.Kind.{Kind}
 use Rattle.row_codec.specs.declared.rows.Kind.TheVariants.{Int, Text, Bytes, Bool as Truth}
 use Rattle.row_codec.specs.RowValues.{sized}

@@ -5,7 +5,8 @@ use Rattle.key_encoding.specs.Spelling.{uvarint}
 use Rattle.key_encoding.specs.Reading.{read_uvarint}
 use Rattle.key_encoding.specs.declared.fault.KeyFault.{KeyFault}
 use Rattle.mvcc_keys.specs.Times.{Time}
-use Rattle.mvcc_keys.specs.Codes.{AreBytes, read_time_bytes}
+use Rattle.mvcc_keys.specs.Codes.{read_time_bytes}
+use Rattle.list_laws.specs.Bytes.{AreBytes}
 use Rattle.table_descriptors.specs.Names.{is_name}
 use Rattle.table_descriptors.specs.declared.fields.FieldFault.{FieldFault}
 use Rattle.table_descriptors.specs.declared.fields.FieldFault.TheVariants.{Broken, Memory}

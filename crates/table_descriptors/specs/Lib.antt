@@ -4,3 +4,4 @@ pub mod Descriptors
 pub mod DescriptorFiles
 pub mod DescriptorView
 pub mod Restoring
+pub mod DescriptorFaults

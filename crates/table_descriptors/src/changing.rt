@@ -9,6 +9,7 @@ use crate::changes::Change;
 use crate::columns::{Column, State};
 use crate::descriptors::{Descriptor, a_time, upright};
 use crate::faults::SchemaFault;
+use crate::limits::{COLUMNS_MAX, NEXT_COLUMN_ID_MAX};
 use crate::names::Name;
 use mvcc_keys::{Hlc, Memory};
 use std::alloc::Global;
@@ -45,7 +46,8 @@ fn others(alloc: Global, columns: &[Column], name: &Name) -> Result<Vec<Column>,
     Ok(made)
 }
 
-fn renamed(alloc: Global, column: &Column, from: &Name, to: &Name) -> Result<Column, Memory>
+/// The column, under another name if it has this one.
+fn rename_column(alloc: Global, column: &Column, from: &Name, to: &Name) -> Result<Column, Memory>
     ensures made { IfOk result (λ c. c ≡ renamed from.now to.now column.now) }
     ensures named { IfOk result (λ c. is_name c.name ≡ true) }
 {
@@ -60,7 +62,7 @@ fn renamed(alloc: Global, column: &Column, from: &Name, to: &Name) -> Result<Col
 }
 
 /// The columns, the one of a name under another one.
-fn all_renamed(
+fn rename_columns(
     alloc: Global,
     columns: &[Column],
     from: &Name,
@@ -71,7 +73,7 @@ fn all_renamed(
 {
     let mut made = Vec::new(alloc);
     for column in columns {
-        made.push(renamed(alloc, column, from, to)?)?;
+        made.push(rename_column(alloc, column, from, to)?)?;
     }
     Ok(made)
 }
@@ -91,9 +93,9 @@ impl Descriptor {
     {
         let columns = self.columns.as_slice();
         match change {
-            Change::Add { .. } if columns.len() >= 64 => Some(4),
+            Change::Add { .. } if columns.len() >= COLUMNS_MAX => Some(4),
             Change::Add { name, .. } if has_column(columns, name) => Some(6),
-            Change::Add { .. } if self.next_column >= u32::MAX => Some(9),
+            Change::Add { .. } if self.next_column >= NEXT_COLUMN_ID_MAX => Some(9),
             Change::Remove { name } if self.is_key_name(name) => Some(5),
             Change::Remove { name } if !has_column(columns, name) => Some(7),
             Change::RenameColumn { to, .. } if has_column(columns, to) => Some(6),
@@ -119,7 +121,7 @@ impl Descriptor {
                 Ok(made)
             }
             Change::Remove { name } => others(alloc, columns, name),
-            Change::RenameColumn { from, to } => all_renamed(alloc, columns, from, to),
+            Change::RenameColumn { from, to } => rename_columns(alloc, columns, from, to),
             _ => copies(alloc, columns),
         }
     }

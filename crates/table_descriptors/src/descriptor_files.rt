@@ -1,7 +1,6 @@
 //! Descriptors in files, both ways.
 ghost use Rattle.std.specs.Prelude.{◌≡◌, ℕ, List, ◌++◌, ◌∷◌, [], nat_lt, length, take, map, IfOk, OnOk, OnErr};
 ghost use Rattle.std.specs.List.{list_any};
-ghost use Rattle.key_encoding.specs.Spelling.{uvarint};
 ghost use Rattle.row_codec.specs.KeyReading.{Gives};
 ghost use Rattle.table_descriptors.specs.Fields.{Reads, list_code, read_items, read_byte};
 ghost use Rattle.table_descriptors.specs.Descriptors.{last_key, column_id, is_column};
@@ -11,11 +10,12 @@ use crate::changing::has_column;
 use crate::columns::{Column, State};
 use crate::descriptors::Descriptor;
 use crate::fields::{
-    FieldFault, broken, put_number, put_sized, take_count, take_flag, take_id, take_name,
+    FieldFault, broken, put_ids, put_number, take_count, take_flag, take_id, take_name,
     take_number, take_time,
 };
+use crate::limits::COLUMNS_MAX;
 use mvcc_keys::Memory;
-use row_codec::{Kind, RowFault};
+use row_codec::{Kind, RowFault, put_sized};
 use std::alloc::Global;
 use std::collections::BTreeSet;
 
@@ -91,17 +91,6 @@ fn put_keys(ids: &[u32], down: &[u32], out: &mut Vec<u8>) -> Result<(), Memory>
     Ok(())
 }
 
-fn put_references(references: &[u32], out: &mut Vec<u8>) -> Result<(), Memory>
-    ensures ok { OnOk result (out.new.items ≡ out.old.items ++ list_code uvarint references.now) }
-    ensures err { OnErr result (take (length out.old.items) out.new.items ≡ out.old.items) }
-{
-    put_number(references.len() as u64, out)?;
-    for id in references {
-        put_number(u64::from(*id), out)?;
-    }
-    Ok(())
-}
-
 impl Descriptor {
     fn put_names(&self, out: &mut Vec<u8>) -> Result<(), Memory>
         ensures ok { OnOk result (out.new.items ≡ out.old.items ++ names_code self.now) }
@@ -132,7 +121,7 @@ impl Descriptor {
     {
         put_columns(self.columns.as_slice(), out)?;
         put_keys(self.key_columns.as_slice(), self.down.as_slice(), out)?;
-        put_references(self.references.as_slice(), out)?;
+        put_ids(self.references.as_slice(), out)?;
         put_number(u64::from(self.next_column), out)?;
         mvcc_keys::put_time(self.modified, out)
     }
@@ -148,12 +137,12 @@ impl Descriptor {
 }
 
 /// Appends a descriptor.
-pub fn write_descriptor(d: &Descriptor, out: &mut Vec<u8>) -> Result<(), Memory>
-    ensures ok { OnOk result (out.new.items ≡ out.old.items ++ schema_code d.now) }
+pub fn write_descriptor(descriptor: &Descriptor, out: &mut Vec<u8>) -> Result<(), Memory>
+    ensures ok { OnOk result (out.new.items ≡ out.old.items ++ schema_code descriptor.now) }
     ensures err { OnErr result (out.new.items ≡ out.old.items) }
 {
     let before = out.len();
-    let done = d.put(out);
+    let done = descriptor.put(out);
     if done.is_err() {
         out.truncate(before);
     }
@@ -246,7 +235,7 @@ fn take_columns(alloc: Global, b: &[u8]) -> Result<(Vec<Column>, &[u8]), FieldFa
     ensures { Reads (λ p. (p.0.items, p.1.now)) result (read_columns b.now) }
 {
     let (count, rest) = take_number(b)?;
-    if count < 1 || count > 64 {
+    if count < 1 || count > COLUMNS_MAX as u64 {
         return Err(broken(b));
     }
     take_each_column(alloc, count, rest)

@@ -3,6 +3,7 @@ ghost use Rattle.std.specs.Prelude.{◌≡◌, ◌+◌, ◌<◌, ◌≤◌, true
 ghost use Rattle.std.specs.List.{list_all};
 ghost use Rattle.mvcc_keys.specs.Times.{IsTime};
 ghost use Rattle.table_descriptors.specs.Names.{is_name};
+ghost use Rattle.table_descriptors.specs.declared.limits.TheConstants.{COLUMNS_MAX};
 ghost use Rattle.table_descriptors.specs.Descriptors.{upright, numbered, place_of, id_of, key_ids, down_ids, new_schema, bad_schema, FaultOf, turned, has_id, kind_of, key_kind, key_kinds, IsProperSchema};
 
 use crate::columns::{Column, State};
@@ -57,8 +58,8 @@ pub(crate) fn upright(kind: Kind) -> Kind
 }
 
 /// The columns of a new table, with ids from 1 on.
-fn numbered(alloc: Global, columns: &[(Name, Kind)]) -> Result<Vec<Column>, Memory>
-    requires { length columns.now ≤ 64 }
+fn number_columns(alloc: Global, columns: &[(Name, Kind)]) -> Result<Vec<Column>, Memory>
+    requires { length columns.now ≤ COLUMNS_MAX }
     ensures made { IfOk result (λ v. v.items ≡ numbered 1 columns.now) }
     ensures named { IfOk result (λ v. list_all (λ c. is_name c.name) v.items ≡ true) }
 {
@@ -82,7 +83,7 @@ fn place_of(columns: &[(Name, Kind)], name: &Name) -> Option<usize>
 
 /// The id of the first column of that name in a new table, 0 where there is none.
 fn id_of(columns: &[(Name, Kind)], name: &Name) -> u32
-    requires { length columns.now ≤ 64 }
+    requires { length columns.now ≤ COLUMNS_MAX }
     ensures { result ≡ id_of columns.now name.now }
 {
     match place_of(columns, name) {
@@ -96,7 +97,7 @@ fn key_ids(
     columns: &[(Name, Kind)],
     key: &[(Name, bool)],
 ) -> Result<Vec<u32>, Memory>
-    requires { length columns.now ≤ 64 }
+    requires { length columns.now ≤ COLUMNS_MAX }
     ensures { IfOk result (λ v. v.items ≡ key_ids columns.now key.now) }
 {
     let ids = key.iter().map(|(name, _)| id_of(columns, name));
@@ -109,14 +110,15 @@ fn down_ids(
     columns: &[(Name, Kind)],
     key: &[(Name, bool)],
 ) -> Result<Vec<u32>, Memory>
-    requires { length columns.now ≤ 64 }
+    requires { length columns.now ≤ COLUMNS_MAX }
     ensures { IfOk result (λ v. v.items ≡ down_ids columns.now key.now) }
 {
     let down = key.iter().filter(|(_, is_down)| *is_down);
     Ok(down.map(|(name, _)| id_of(columns, name)).collect(alloc)?)
 }
 
-fn turned(kind: Kind) -> Kind
+/// The kind of a descending column.
+fn descending_kind(kind: Kind) -> Kind
     ensures { result ≡ turned kind }
 {
     match kind {
@@ -159,7 +161,7 @@ fn first_descriptor(
     at: Hlc,
 ) -> Result<Descriptor, Memory>
     requires allowed { bad_schema columns.now key.now references.now ≡ None }
-    requires few { length columns.now ≤ 64 }
+    requires few { length columns.now ≤ COLUMNS_MAX }
     requires some { 0 < length key.now }
     ensures { IfOk result (λ d. d ≡ new_schema id database.now name.now columns.now key.now references.now at) }
 {
@@ -169,7 +171,7 @@ fn first_descriptor(
         database: database.copy(alloc)?,
         name: name.copy(alloc)?,
         state: State::Public,
-        columns: numbered(alloc, columns)?,
+        columns: number_columns(alloc, columns)?,
         key_columns: key_ids(alloc, columns, key)?,
         references: Vec::from_slice(alloc, references)?,
         next_column: columns.len() as u32 + 1,
@@ -284,7 +286,7 @@ impl Descriptor {
     {
         let kind = kind_of(self.columns.as_slice(), id);
         if self.down.contains(&id) {
-            turned(kind)
+            descending_kind(kind)
         } else {
             kind
         }

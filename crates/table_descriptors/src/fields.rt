@@ -2,8 +2,7 @@
 //! the first item begins that doesn't read.
 ghost use Rattle.std.specs.Prelude.{◌≡◌, ◌++◌, length, take, OnOk, OnErr};
 ghost use Rattle.key_encoding.specs.Spelling.{uvarint};
-ghost use Rattle.row_codec.specs.RowValues.{sized};
-ghost use Rattle.table_descriptors.specs.Fields.{Reads, read_number, read_id, read_count, read_exactly, read_sized, read_name, read_time, read_byte, flag_of};
+ghost use Rattle.table_descriptors.specs.Fields.{Reads, list_code, read_number, read_id, read_count, read_exactly, read_sized, read_name, read_time, read_byte, flag_of};
 ghost use Rattle.table_descriptors.specs.declared.fields.FieldFault.TheVariants.{Broken};
 
 use crate::names::Name;
@@ -38,13 +37,16 @@ pub fn put_number(n: u64, out: &mut Vec<u8>) -> Result<(), Memory>
     key_encoding::put_uvarint(n, out).map_err(|_| Memory)
 }
 
-/// Appends a length and bytes; where memory is wanting, a part of them.
-pub fn put_sized(b: &[u8], out: &mut Vec<u8>) -> Result<(), Memory>
-    ensures ok { OnOk result (out.new.items ≡ out.old.items ++ sized b.now) }
+/// Appends the number of some ids, and the ids; where memory is wanting, a part of them.
+pub fn put_ids(ids: &[u32], out: &mut Vec<u8>) -> Result<(), Memory>
+    ensures ok { OnOk result (out.new.items ≡ out.old.items ++ list_code uvarint ids.now) }
     ensures err { OnErr result (take (length out.old.items) out.new.items ≡ out.old.items) }
 {
-    put_number(b.len() as u64, out)?;
-    out.extend_from_slice(b).map_err(|_| Memory)
+    put_number(ids.len() as u64, out)?;
+    for id in ids {
+        put_number(u64::from(*id), out)?;
+    }
+    Ok(())
 }
 
 /// The fault of an item that begins where these bytes do.

@@ -4,11 +4,14 @@
 mod changes;
 mod changing;
 mod columns;
+mod copying;
 mod descriptor_files;
 mod descriptors;
 mod faults;
 mod fields;
 mod key_names;
+mod laws;
+mod limits;
 mod names;
 mod restored;
 mod rules;
@@ -22,13 +25,13 @@ pub use descriptor_files::{
 pub use descriptors::Descriptor;
 pub use faults::SchemaFault;
 pub use fields::{
-    FieldFault, broken, put_number, put_sized, take_count, take_exactly, take_flag, take_id,
+    FieldFault, broken, put_ids, put_number, take_count, take_exactly, take_flag, take_id,
     take_name, take_number, take_sized, take_time,
 };
 pub use key_names::KeyNames;
+pub use laws::descriptor_faults_are_first;
+pub use limits::{CHUNKS_MAX, COLUMNS_MAX, NAME_BYTES_MAX, NEXT_COLUMN_ID_MAX};
 pub use names::Name;
-pub use rules::broken_rule;
+pub use row_codec::put_sized;
+pub use rules::{broken_rule, repeats_id};
 pub use scopes::Scope;
-
-#[cfg(test)]
-mod tests;

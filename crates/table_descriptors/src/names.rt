@@ -4,6 +4,7 @@ ghost use Rattle.std.specs.List.{list_all};
 ghost use Rattle.std.specs.Str.{bytes_eq};
 ghost use Rattle.table_descriptors.specs.Names.{is_name_start, is_name_byte, is_name_text, is_name, name_of};
 
+use crate::limits::NAME_BYTES_MAX;
 use mvcc_keys::Memory;
 use std::alloc::Global;
 use std::fmt;
@@ -57,7 +58,7 @@ fn is_name_text(bytes: &[u8]) -> bool
 fn is_name(bytes: &[u8]) -> bool
     ensures { result ≡ is_name bytes.now }
 {
-    bytes.len() <= 32 && is_name_text(bytes)
+    bytes.len() <= NAME_BYTES_MAX && is_name_text(bytes)
 }
 
 impl Name {

@@ -3,7 +3,9 @@ ghost use Rattle.std.specs.Prelude.{◌≡◌, ◌≤◌, length, IfNone};
 ghost use Rattle.std.specs.List.{list_any};
 ghost use Rattle.std.specs.Str.{bytes_eq};
 ghost use Rattle.table_descriptors.specs.Descriptors.{repeats_column, repeats_key_column, repeats_id, are_columns, broken_rule};
+ghost use Rattle.table_descriptors.specs.declared.limits.TheConstants.{COLUMNS_MAX};
 
+use crate::limits::COLUMNS_MAX;
 use crate::names::Name;
 use row_codec::Kind;
 
@@ -79,7 +81,7 @@ pub fn broken_rule(
     repeats_reference: bool,
 ) -> Option<u8>
     ensures which { result ≡ broken_rule columns.now key.now repeats_reference }
-    ensures few { IfNone result (length columns.now ≤ 64) }
+    ensures few { IfNone result (length columns.now ≤ COLUMNS_MAX) }
 {
     if repeats_column(columns) {
         return Some(1);
@@ -90,7 +92,7 @@ pub fn broken_rule(
     if repeats_key_column(key) {
         return Some(3);
     }
-    if columns.len() > 64 {
+    if columns.len() > COLUMNS_MAX {
         return Some(4);
     }
     if repeats_reference {
