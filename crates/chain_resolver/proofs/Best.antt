@@ -1,6 +1,6 @@
 -- There is at most one best way, and at most one reason why there is none.
 use Rattle.std.proofs.Common.{◌≡◌, ℕ, true, sym, refl, ap, ◌∙◌, subst, inl, inr, List, length, Ordering, Less, Equal, Greater, true≢false}
-use Rattle.std.specs.Ordering.{nat_cmp, is_le, ordering_then, ordering_reverse}
+use Rattle.std.specs.Ordering.{nat_cmp, is_le, ordering_reverse}
 use Rattle.std.specs.Cmp.{IsTotalOrder}
 use Rattle.std.specs.Cmp.Lexicographic.{slice_cmp}
 use Rattle.std.proofs.lemmas.Cmp.{nat_cmp_total, on_total, then_total, back_total, lists_total, nat_list_cmp_total}
@@ -11,7 +11,8 @@ use Rattle.mvcc_keys.specs.Codes.{time_cmp}
 use Rattle.chain_resolver.specs.Ways.{Route, IsBestWay, way_cmp, ends}
 use Rattle.chain_resolver.specs.Cover.{IsReached, IsReason, reason}
 use Rattle.chain_resolver.specs.declared.faults.CoverFault.{CoverFault}
-use Rattle.chain_resolver.proofs.TimeLaws as times
+use Rattle.list_laws.proofs.Orderings.{then-Equal}
+use Rattle.mvcc_keys.proofs.TimeOrder as times
 
 way_total : (ls : List Layer) → IsTotalOrder (way_cmp ls)
 way_total ls = then_total (on_total length nat_cmp_total) (then_total (back_total (on_total (ends ls) (lists_total times.time_total))) nat_list_cmp_total)
@@ -23,15 +24,10 @@ both Less Greater p q e = absurd (true≢false (sym q))
 both Equal o' p q e = refl
 both Greater o' p q e = absurd (true≢false (sym p))
 
-then-Equal : (a b : Ordering) → ordering_then a b ≡ Equal → b ≡ Equal
-then-Equal Less b e = cc
-then-Equal Equal b e = e
-then-Equal Greater b e = cc
-
 pub unique : (r : Route) (ls : List Layer) (ps qs : List ℕ) → IsBestWay r ls ps → IsBestWay r ls qs → ps ≡ qs
 unique r ls ps qs hp hq =
     let e : way_cmp ls ps qs ≡ Equal = both (way_cmp ls ps qs) (way_cmp ls qs ps) (hp.best qs hq.way) (hq.best ps hp.way) ((way_total ls).antisymm ps qs) in
-    let last : slice_cmp nat_cmp ps qs ≡ Equal = then-Equal (slice_cmp time_cmp (ends ls qs) (ends ls ps)) _ (then-Equal (nat_cmp (length ps) (length qs)) _ e) in
+    let last : slice_cmp nat_cmp ps qs ≡ Equal = (then-Equal (slice_cmp time_cmp (ends ls qs) (ends ls ps)) _ (then-Equal (nat_cmp (length ps) (length qs)) _ e).1).1 in
     exact_bytes ps qs last
 
 reached-le : (ls : List Layer) (t x y : Time) → IsReached ls t x → IsReached ls t y → time_le x y ≡ true

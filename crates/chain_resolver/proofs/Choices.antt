@@ -5,8 +5,7 @@ use Rattle.std.specs.Option.{option_map}
 use Rattle.std.proofs.lemmas.Option.{slice_get_within, slice_get_read, gets, slice_get-map}
 use Rattle.std.proofs.lemmas.Bool.{cases_lt, cases_eq, or_cases, and_from, and_parts, cases_Bool}
 use Rattle.chain_resolver.specs.declared.layer.Layer.{Layer}
-use Rattle.mvcc_keys.specs.Times.{Time, time_lt, time_le}
-use Rattle.chain_resolver.specs.Ways.{time_eq}
+use Rattle.mvcc_keys.specs.Times.{Time, time_lt, time_le, time_eq}
 use Rattle.chain_resolver.specs.Ways.{Route, IsBestWay, NoWay, usable}
 use Rattle.chain_resolver.specs.Steps.{can, IsChoice, Walks, IsByEnd, IsForward}
 use Rattle.chain_resolver.specs.declared.task.Task.{Task}
@@ -14,8 +13,9 @@ use Rattle.mvcc_keys.specs.declared.bytes.Memory.{Memory}
 use Rattle.chain_resolver.specs.declared.task.Task.TheVariants.{Chain, Join, Span}
 use Rattle.std.proofs.lemmas.Grind.{common_steps}
 use Rattle.chain_resolver.specs.Tasks.{IsMarked, BestBelow, better, CanStart, StartsAt, AreRows, leads_on, route_of}
-use Rattle.chain_resolver.proofs.TimeLaws as times
+use Rattle.mvcc_keys.proofs.TimeOrder as times
 use Rattle.chain_resolver.proofs.Walks as walks
+use Rattle.list_laws.proofs.Options as options
 
 before_or_at : (q i : ℕ) → q < i + 1 → (q < i) ⊎ (q ≡ i)
 before_or_at q i h = elim (cases_lt q i) [ inl a ↦ inl a | inr a ↦ inr (omega arith) ]
@@ -32,7 +32,7 @@ row-at r ls rows k row given are lt is same = same ∙ are k row (slice_get_read
 
 module _ (r : Route) (ls : List Layer) (row : List Bool) (before : Option Layer) where
   same_layer : (q i : ℕ) (l m : Layer) → q ≡ i → IsMarked r ls row before q l → slice_get ls i ≡ Some m → l ≡ m
-  same_layer q i l m e h at = walks.Some-is l m (sym h.there ∙ ap (slice_get ls) e ∙ at)
+  same_layer q i l m e h at = options.some-is l m (sym h.there ∙ ap (slice_get ls) e ∙ at)
 
   -- one more place that doesn't count
   skips : (i : ℕ) (best : Option (ℕ × Layer)) → ((l : Layer) → IsMarked r ls row before i l → ⊥) → BestBelow r ls row before i best → BestBelow r ls row before (i + 1) best
@@ -64,21 +64,21 @@ module _ (r : Route) (ls : List Layer) (row : List Bool) (before : Option Layer)
       by false ge = record {
         below = let b = h.below in omega arith;
         among = h.among;
-        greatest = λ q l j k. elim (before_or_at q i j) [ inl a ↦ h.greatest q l a k | inr a ↦ subst (λ (x : Layer). time_le x.end m.end ≡ true) (sym (same_layer q i l n a k new.there)) (times.not-lt-le m.end n.end ge) ];
+        greatest = λ q l j k. elim (before_or_at q i j) [ inl a ↦ h.greatest q l a k | inr a ↦ subst (λ (x : Layer). time_le x.end m.end ≡ true) (sym (same_layer q i l n a k new.there)) (times.not_lt-le m.end n.end ge) ];
         lowest = λ q l j k e. elim (before_or_at q i j) [ inl a ↦ h.lowest q l a k e | inr a ↦ let b = h.below in omega arith ];
       }
 
   pub best-step : (i : ℕ) (best next : Option (ℕ × Layer)) (l : Layer) (mark fit : Bool) → BestBelow r ls row before i best → slice_get ls i ≡ Some l → slice_get row i ≡ Some mark → fit ≡ r.follows before l → next ≡ cond (mark && fit) (better best i l) best → BestBelow r ls row before (i + 1) next
   best-step i best next l true true h at on fits e = subst (λ (o : Option (ℕ × Layer)). BestBelow r ls row before (i + 1) o) (sym e) (takes i best l (record { there = at; marked = on; follows = sym fits }) h)
-  best-step i best next l true false h at on fits e = subst (λ (o : Option (ℕ × Layer)). BestBelow r ls row before (i + 1) o) (sym e) (skips i best (λ m k. true≢false (sym k.follows ∙ ap (r.follows before) (walks.Some-is m l (sym k.there ∙ at)) ∙ sym fits)) h)
-  best-step i best next l false fit h at on fits e = subst (λ (o : Option (ℕ × Layer)). BestBelow r ls row before (i + 1) o) (sym e) (skips i best (λ m k. true≢false (walks.Some-is true false (sym k.marked ∙ on))) h)
+  best-step i best next l true false h at on fits e = subst (λ (o : Option (ℕ × Layer)). BestBelow r ls row before (i + 1) o) (sym e) (skips i best (λ m k. true≢false (sym k.follows ∙ ap (r.follows before) (options.some-is m l (sym k.there ∙ at)) ∙ sym fits)) h)
+  best-step i best next l false fit h at on fits e = subst (λ (o : Option (ℕ × Layer)). BestBelow r ls row before (i + 1) o) (sym e) (skips i best (λ m k. true≢false (options.some-is true false (sym k.marked ∙ on))) h)
 
   module _ (k : ℕ) (is : row ≡ map (can r ls k) ls) where
     marked-can : (q : ℕ) (l : Layer) → slice_get ls q ≡ Some l → slice_get row q ≡ Some (can r ls k l)
     marked-can q l at = ap (λ (xs : List Bool). slice_get xs q) is ∙ slice_get-map (can r ls k) ls q ∙ ap (option_map (can r ls k)) at
 
     can-marked : (q : ℕ) (l : Layer) → IsMarked r ls row before q l → can r ls k l ≡ true
-    can-marked q l h = walks.Some-is (can r ls k l) true (sym (marked-can q l h.there) ∙ h.marked)
+    can-marked q l h = options.some-is (can r ls k l) true (sym (marked-can q l h.there) ∙ h.marked)
 
     is-marked : (q : ℕ) (l : Layer) → slice_get ls q ≡ Some l → (r.follows before l && can r ls k l) ≡ true → IsMarked r ls row before q l
     is-marked q l at h = let p = and_parts (r.follows before l) (can r ls k l) h in record { there = at; marked = marked-can q l at ∙ ap Some p.1; follows = p.0 }
@@ -130,7 +130,7 @@ rows-more r ls rows more row are is grown j given at = elim (cases_lt j (length 
     slice_get-append-left j lt = grind (arith, common_steps, gets)
 
     last : (j ≡ length rows) ⊎ (j ≡ length rows → ⊥) → length rows ≤ j → given ≡ map (can r ls j) ls
-    last (inl e) le = let here : slice_get (rows ++ (row ∷ [])) j ≡ Some row = grind (arith, common_steps, gets) in walks.Some-is given row (sym at' ∙ here) ∙ is ∙ ap (λ (n : ℕ). map (can r ls n) ls) (sym e)
+    last (inl e) le = let here : slice_get (rows ++ (row ∷ [])) j ≡ Some row = grind (arith, common_steps, gets) in options.some-is given row (sym at' ∙ here) ∙ is ∙ ap (λ (n : ℕ). map (can r ls n) ls) (sym e)
     last (inr n) le = let past : slice_get (rows ++ (row ∷ [])) j ≡ None = grind (arith, common_steps, gets) in absurd (no (sym at' ∙ past))
       where
         no : Some given ≡ None → ⊥

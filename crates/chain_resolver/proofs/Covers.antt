@@ -7,15 +7,14 @@ use Rattle.chain_resolver.specs.declared.task.Task.{Task}
 use Rattle.chain_resolver.specs.declared.task.Task.TheVariants.{Chain, Join, Span}
 use Rattle.chain_resolver.specs.declared.faults.CoverFault.{CoverFault}
 use Rattle.chain_resolver.specs.declared.faults.CoverFault.TheVariants.{NotCovered, HistoryCollected, NeedsHistory, Gap, Memory}
-use Rattle.mvcc_keys.specs.Times.{Time, zero_time, time_lt}
-use Rattle.chain_resolver.specs.Ways.{time_eq}
+use Rattle.mvcc_keys.specs.Times.{Time, zero_time, time_lt, time_eq, latest, or_zero}
 use Rattle.chain_resolver.specs.Ways.{AreOrdered, NoWay, usable, chain_to}
 use Rattle.chain_resolver.specs.Steps.{IsForward}
 use Rattle.chain_resolver.specs.Tasks.{route_of}
-use Rattle.chain_resolver.specs.Cover.{CoverFaultIs, IsReason, latest, or_zero, reason}
+use Rattle.chain_resolver.specs.Cover.{CoverFaultIs, IsReason, reason}
 use Rattle.chain_resolver.specs.Reaching.{marked_times, reach, reach_on, reached_times}
-use Rattle.chain_resolver.proofs.TimeLaws as times
-use Rattle.chain_resolver.proofs.Walks as walks
+use Rattle.mvcc_keys.proofs.TimeOrder as times
+use Rattle.list_laws.proofs.Options as walks
 use Rattle.chain_resolver.proofs.Reach.{reached-is}
 
 after : (l m : Layer) → time_lt l.start l.end ≡ true → time_eq l.end m.start ≡ true → time_lt l.start m.start ≡ true
@@ -23,7 +22,7 @@ after l m lt e = subst (λ (x : Time). time_lt l.start x ≡ true) (times.eq-is 
 
 ordered-at : (ls : List Layer) → AreOrdered ls → (p : ℕ) (l : Layer) → slice_get ls p ≡ Some l → time_lt l.start l.end ≡ true
 ordered-at [] h p l at = cc
-ordered-at (x ∷ xs) h zero l at = subst (λ (y : Layer). time_lt y.start y.end ≡ true) (walks.Some-is x l at) (and_parts (time_lt x.start x.end) (list_all (λ m. time_lt m.start m.end) xs) h).0
+ordered-at (x ∷ xs) h zero l at = subst (λ (y : Layer). time_lt y.start y.end ≡ true) (walks.some-is x l at) (and_parts (time_lt x.start x.end) (list_all (λ m. time_lt m.start m.end) xs) h).0
 ordered-at (x ∷ xs) h (suc p) l at = ordered-at xs (and_parts (time_lt x.start x.end) (list_all (λ m. time_lt m.start m.end) xs) h).1 p l at
 
 pub route-IsForward : (t : Task) (ls : List Layer) → AreOrdered ls → IsForward (route_of t) ls

@@ -13,6 +13,7 @@ use Rattle.chain_resolver.specs.Ways.{AreOrdered, Route, GoesOn, IsBestWay, NoWa
 use Rattle.chain_resolver.specs.Steps.{IsForward}
 use Rattle.chain_resolver.specs.Cover.{IsReason, CoverFaultIs, reason}
 use Rattle.chain_resolver.specs.Best.{is_passing, goes_on, is_way, lists_below, candidates, is_best, best_way, Chain, Uncovered, cover_of, reached, cover, UncoveredBy, CoversAreFound}
+use Rattle.list_laws.proofs.Bools.{not-or}
 use Rattle.chain_resolver.proofs.Best.{unique, reason-unique}
 use Rattle.chain_resolver.proofs.Covers.{route-IsForward}
 use Rattle.chain_resolver.proofs.Reach.{Among, reached-is}
@@ -108,12 +109,8 @@ module _ (r : Route) (ls : List Layer) where
       let both = and_parts (is_way r ls ps) (list_all (λ qs. not (is_way r ls qs) || is_le (way_cmp ls ps qs)) (candidates ls)) h in
       record {
         way = goes-is None ps both.0;
-        best = λ qs way. by (is_way r ls qs) (is_le (way_cmp ls ps qs)) (is-goes None qs way) (all-at (λ qs. not (is_way r ls qs) || is_le (way_cmp ls ps qs)) (candidates ls) qs (among-candidates fwd qs way) both.1);
+        best = λ qs way. not-or (is_way r ls qs) (is_le (way_cmp ls ps qs)) (is-goes None qs way) (all-at (λ qs. not (is_way r ls qs) || is_le (way_cmp ls ps qs)) (candidates ls) qs (among-candidates fwd qs way) both.1);
       }
-    where
-      by : (b c : Bool) → b ≡ true → (not b || c) ≡ true → c ≡ true
-      by true c e h = h
-      by false c e h = absurd (true≢false (sym e))
 
   found : IsForward r ls → (ps : List ℕ) → IsBestWay r ls ps → best_way r ls ≡ Some ps
   unfolding best_way

@@ -3,26 +3,27 @@ use Rattle.std.proofs.Common.{◌≡◌, ℕ, zero, suc, Bool, true, false, ◌&
 use Rattle.std.specs.List.{slice_get, list_any, fold}
 use Rattle.std.proofs.lemmas.Bool.{or_cases, and_from, and_parts}
 use Rattle.chain_resolver.specs.declared.layer.Layer.{Layer}
-use Rattle.mvcc_keys.specs.Times.{Time, zero_time, time_lt, time_le}
-use Rattle.chain_resolver.specs.Ways.{time_eq}
+use Rattle.mvcc_keys.specs.Times.{Time, zero_time, time_lt, time_le, time_eq, later, latest, or_zero}
 use Rattle.chain_resolver.specs.Ways.{GoesOn, IsWay, join_between}
 use Rattle.chain_resolver.specs.Steps.{IsForward}
-use Rattle.chain_resolver.specs.Cover.{IsReached, later, latest, or_zero}
+use Rattle.chain_resolver.specs.Cover.{IsReached}
 use Rattle.chain_resolver.specs.Reaching.{reach, reached_times}
-use Rattle.chain_resolver.proofs.TimeLaws as times
+use Rattle.mvcc_keys.proofs.TimeOrder as times
 use Rattle.chain_resolver.proofs.Walks as walks
+use Rattle.list_laws.proofs.Bools as bools
+use Rattle.list_laws.proofs.Options as options
 use Rattle.chain_resolver.proofs.Choices.{list_any-found}
 
 list_any-mono : (f g : Layer → Bool) → ((l : Layer) → f l ≡ true → g l ≡ true) → (xs : List Layer) → list_any f xs ≡ true → list_any g xs ≡ true
 list_any-mono f g sub [] h = h
-list_any-mono f g sub (x ∷ xs) h = elim (or_cases (f x) (list_any f xs) h) [ inl a ↦ walks.or-left (g x) (list_any g xs) (sub x a) | inr a ↦ walks.or-right (g x) (list_any g xs) (list_any-mono f g sub xs a) ]
+list_any-mono f g sub (x ∷ xs) h = elim (or_cases (f x) (list_any f xs) h) [ inl a ↦ bools.or-left (g x) (list_any g xs) (sub x a) | inr a ↦ bools.or-right (g x) (list_any g xs) (list_any-mono f g sub xs a) ]
 
 module _ (ls : List Layer) where
   reach-more : (k : ℕ) (l : Layer) → reach ls k l ≡ true → reach ls (suc k) l ≡ true
   reach-more zero l h = absurd (true≢false (sym h))
   reach-more (suc k) l h = elim (or_cases (time_eq zero_time l.start) (list_any (λ m. time_eq m.end l.start && reach ls k m) ls) h) [
-    | inl a ↦ walks.or-left (time_eq zero_time l.start) (list_any (λ m. time_eq m.end l.start && reach ls (suc k) m) ls) a
-    | inr a ↦ walks.or-right (time_eq zero_time l.start) (list_any (λ m. time_eq m.end l.start && reach ls (suc k) m) ls) (list_any-mono (λ m. time_eq m.end l.start && reach ls k m) (λ m. time_eq m.end l.start && reach ls (suc k) m) (λ m e. let p = and_parts (time_eq m.end l.start) (reach ls k m) e in and_from (time_eq m.end l.start) (reach ls (suc k) m) p.0 (reach-more k m p.1)) ls a)
+    | inl a ↦ bools.or-left (time_eq zero_time l.start) (list_any (λ m. time_eq m.end l.start && reach ls (suc k) m) ls) a
+    | inr a ↦ bools.or-right (time_eq zero_time l.start) (list_any (λ m. time_eq m.end l.start && reach ls (suc k) m) ls) (list_any-mono (λ m. time_eq m.end l.start && reach ls k m) (λ m. time_eq m.end l.start && reach ls (suc k) m) (λ m e. let p = and_parts (time_eq m.end l.start) (reach ls k m) e in and_from (time_eq m.end l.start) (reach ls (suc k) m) p.0 (reach-more k m p.1)) ls a)
   ]
 
   reach-upto : (j k : ℕ) (l : Layer) → reach ls k l ≡ true → reach ls (j + k) l ≡ true
@@ -43,12 +44,12 @@ module _ (ls : List Layer) where
   along : (y : Time) (k p : ℕ) (l : Layer) (qs : List ℕ) → slice_get ls p ≡ Some l → reach ls k l ≡ true → GoesOn (join_between zero_time y) ls (Some l) qs → Arrives y (k + length qs)
   along y k p l [] at r h = record { layer = l; place = p; there = at; ends = times.eq-is l.end y h; reached = subst (λ (n : ℕ). reach ls n l ≡ true) (let e : k ≡ k + 0 = omega arith in e) r }
   along y k p l (q ∷ qs) at r (m, there, goes, on) =
-      let next : reach ls (suc k) m ≡ true = walks.or-right (time_eq zero_time m.start) (list_any (λ n. time_eq n.end m.start && reach ls k n) ls) (walks.list_any-at (λ n. time_eq n.end m.start && reach ls k n) ls p l at (and_from (time_eq l.end m.start) (reach ls k l) goes r)) in
+      let next : reach ls (suc k) m ≡ true = bools.or-right (time_eq zero_time m.start) (list_any (λ n. time_eq n.end m.start && reach ls k n) ls) (walks.list_any-at (λ n. time_eq n.end m.start && reach ls k n) ls p l at (and_from (time_eq l.end m.start) (reach ls k l) goes r)) in
       subst (λ (n : ℕ). Arrives y n) (let e : suc k + length qs ≡ k + length (q ∷ qs) = omega arith in e) (along y (suc k) q m qs there next on)
 
   way-Arrives : (y : Time) (ps : List ℕ) → IsWay (join_between zero_time y) ls ps → Arrives y (length ps)
   way-Arrives y [] h = absurd h
-  way-Arrives y (p ∷ ps) (l, at, goes, on) = subst (λ (n : ℕ). Arrives y n) (let e : 1 + length ps ≡ length (p ∷ ps) = omega arith in e) (along y 1 p l ps at (walks.or-left (time_eq zero_time l.start) (list_any (λ n. time_eq n.end l.start && reach ls 0 n) ls) goes) on)
+  way-Arrives y (p ∷ ps) (l, at, goes, on) = subst (λ (n : ℕ). Arrives y n) (let e : 1 + length ps ≡ length (p ∷ ps) = omega arith in e) (along y 1 p l ps at (bools.or-left (time_eq zero_time l.start) (list_any (λ n. time_eq n.end l.start && reach ls 0 n) ls) goes) on)
 
   -- one more layer at the end
   snoc : (x y : Time) (before : Option Layer) (ps : List ℕ) (p : ℕ) (l : Layer) → slice_get ls p ≡ Some l → time_eq x l.start ≡ true → time_eq l.end y ≡ true → GoesOn (join_between zero_time x) ls before ps → GoesOn (join_between zero_time y) ls before (ps ++ (p ∷ []))
@@ -79,7 +80,7 @@ IsLatest best ts (Some x) = ((best ≡ Some x) ⊎ Among x ts) × ((y : Time) �
 
 latest-is : (best : Option Time) (ts : List Time) → IsLatest best ts (fold later best ts)
 latest-is None [] = (refl, λ y h. h)
-latest-is (Some x) [] = (inl refl, λ y. elim [ inl e ↦ subst (λ (z : Time). time_le z x ≡ true) (walks.Some-is x y e) (times.le-refl x) | inr h ↦ absurd h ])
+latest-is (Some x) [] = (inl refl, λ y. elim [ inl e ↦ subst (λ (z : Time). time_le z x ≡ true) (options.some-is x y e) (times.le-refl x) | inr h ↦ absurd h ])
 latest-is None (t ∷ ts) = first (fold later (Some t) ts) (latest-is (Some t) ts)
   where
     first : (o : Option Time) → IsLatest (Some t) ts o → IsLatest None (t ∷ ts) o
@@ -87,7 +88,7 @@ latest-is None (t ∷ ts) = first (fold later (Some t) ts) (latest-is (Some t) t
       where
         no : Some t ≡ None → ⊥
         no e = cc
-    first (Some x) (is, most) = (elim is [ inl e ↦ inr (inl (sym (walks.Some-is t x e))) | inr a ↦ inr (inr a) ], λ y. elim [ inl e ↦ absurd (no e) | inr a ↦ most y (elim a [ inl e ↦ inl (ap Some (sym e)) | inr b ↦ inr b ]) ])
+    first (Some x) (is, most) = (elim is [ inl e ↦ inr (inl (sym (options.some-is t x e))) | inr a ↦ inr (inr a) ], λ y. elim [ inl e ↦ absurd (no e) | inr a ↦ most y (elim a [ inl e ↦ inl (ap Some (sym e)) | inr b ↦ inr b ]) ])
       where
         no : {y : Time} → None ≡ Some y → ⊥
         no e = cc
@@ -99,8 +100,8 @@ latest-is (Some s) (t ∷ ts) = by (time_lt s t) refl (latest-is (Some t) ts) (l
         no : Some a ≡ None → ⊥
         no e = cc
     keep a b (Some x) le one two (is, most) = (
-      elim is [ inl e ↦ elim one [ inl f ↦ inl (ap Some (sym f) ∙ e) | inr f ↦ inr (inl (sym (walks.Some-is a x e) ∙ f)) ] | inr h ↦ inr (inr h) ],
-      λ y. elim [ inl e ↦ early y (two y (inl (sym (walks.Some-is s y e)))) | inr h ↦ elim h [ inl e ↦ early y (two y (inr e)) | inr k ↦ most y (inr k) ] ],
+      elim is [ inl e ↦ elim one [ inl f ↦ inl (ap Some (sym f) ∙ e) | inr f ↦ inr (inl (sym (options.some-is a x e) ∙ f)) ] | inr h ↦ inr (inr h) ],
+      λ y. elim [ inl e ↦ early y (two y (inl (sym (options.some-is s y e)))) | inr h ↦ elim h [ inl e ↦ early y (two y (inr e)) | inr k ↦ most y (inr k) ] ],
     )
       where
         early : (y : Time) → (y ≡ a) ⊎ (y ≡ b) → time_le y x ≡ true
@@ -109,7 +110,7 @@ latest-is (Some s) (t ∷ ts) = by (time_lt s t) refl (latest-is (Some t) ts) (l
 
     by : (c : Bool) → time_lt s t ≡ c → IsLatest (Some t) ts (fold later (Some t) ts) → IsLatest (Some s) ts (fold later (Some s) ts) → IsLatest (Some s) (t ∷ ts) (fold later (cond c (Some t) (Some s)) ts)
     by true lt ht hs = keep t s (fold later (Some t) ts) (times.lt-le s t lt) (inr refl) (λ y. elim [ inl e ↦ inr e | inr e ↦ inl e ]) ht
-    by false ge ht hs = keep s t (fold later (Some s) ts) (times.not-lt-le s t ge) (inl refl) (λ y. elim [ inl e ↦ inl e | inr e ↦ inr e ]) hs
+    by false ge ht hs = keep s t (fold later (Some s) ts) (times.not_lt-le s t ge) (inl refl) (λ y. elim [ inl e ↦ inl e | inr e ↦ inr e ]) hs
 
 module _ (ls : List Layer) (t : Time) (n : ℕ) where
   passes : Layer → Bool
@@ -117,7 +118,7 @@ module _ (ls : List Layer) (t : Time) (n : ℕ) where
 
   among-there : (xs : List Layer) (q : ℕ) (l : Layer) → slice_get xs q ≡ Some l → (time_lt l.end t && reach ls n l) ≡ true → Among l.end (map (λ l. l.end) (filter (λ l. time_lt l.end t && reach ls n l) xs))
   among-there [] q l at h = cc
-  among-there (x ∷ xs) zero l at h = rw (ap (λ (y : Layer). time_lt y.end t && reach ls n y) (walks.Some-is x l at) ∙ h) (inl (ap (λ (y : Layer). y.end) (sym (walks.Some-is x l at))))
+  among-there (x ∷ xs) zero l at h = rw (ap (λ (y : Layer). time_lt y.end t && reach ls n y) (options.some-is x l at) ∙ h) (inl (ap (λ (y : Layer). y.end) (sym (options.some-is x l at))))
   among-there (x ∷ xs) (suc q) l at h = by (time_lt x.end t && reach ls n x) (among-there xs q l at h)
     where
       by : (b : Bool) → Among l.end (map (λ l. l.end) (filter (λ l. time_lt l.end t && reach ls n l) xs)) → Among l.end (map (λ l. l.end) (cond b (x ∷ filter (λ l. time_lt l.end t && reach ls n l) xs) (filter (λ l. time_lt l.end t && reach ls n l) xs)))

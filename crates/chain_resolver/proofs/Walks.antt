@@ -1,5 +1,5 @@
 -- Walks that take the best next layer are best ways.
-use Rattle.std.proofs.Common.{◌≡◌, ℕ, zero, suc, Bool, true, false, ◌&&◌, ◌||◌, ◌≤◌, ◌<◌, ◌+◌, sym, refl, ap, ◌∙◌, subst, List, [], ◌∷◌, Option, Some, None, length, cond, Ordering, Less, Equal, Greater, true≢false, arith, ◌⊎◌, inl, inr}
+use Rattle.std.proofs.Common.{◌≡◌, ℕ, zero, suc, Bool, true, false, ◌&&◌, ◌≤◌, ◌<◌, ◌+◌, sym, refl, ap, ◌∙◌, subst, List, [], ◌∷◌, Option, Some, None, length, cond, Ordering, Less, Equal, Greater, true≢false, arith, ◌⊎◌, inl, inr}
 use Rattle.std.specs.List.{slice_get, list_any}
 use Rattle.std.specs.Ordering.{nat_cmp, is_le, ordering_then}
 use Rattle.std.specs.Cmp.Lexicographic.{slice_cmp}
@@ -10,32 +10,13 @@ use Rattle.mvcc_keys.specs.Codes.{time_cmp}
 use Rattle.chain_resolver.specs.Ways.{Route, GoesOn, IsWay, IsBestWay, way_cmp, ends, end_of}
 use Rattle.std.proofs.lemmas.Bool.{cases_lt}
 use Rattle.chain_resolver.specs.Steps.{can, Walks, IsByEnd, IsForward}
-use Rattle.chain_resolver.proofs.TimeLaws as times
-
-pub and-both : (a b : Bool) → a ≡ true → b ≡ true → (a && b) ≡ true
-and-both a b p q = grind (arith, nat_tests)
-
-and-left : (a b : Bool) → (a && b) ≡ true → a ≡ true
-and-left true b p = refl
-and-left false b p = p
-
-and-right : (a b : Bool) → (a && b) ≡ true → b ≡ true
-and-right true b p = p
-and-right false b p = absurd (true≢false (sym p))
-
-pub or-left : (a b : Bool) → a ≡ true → (a || b) ≡ true
-or-left a b p = ap (λ x. x || b) p
-
-pub or-right : (a b : Bool) → b ≡ true → (a || b) ≡ true
-or-right true b p = refl
-or-right false b p = p
-
-pub Some-is : {X : Type 0} (x y : X) → Some x ≡ Some y → x ≡ y
-Some-is x y e = cc
+use Rattle.mvcc_keys.proofs.TimeOrder as times
+use Rattle.list_laws.proofs.Bools.{and-left, or-left, or-right, and-both, and-right}
+use Rattle.list_laws.proofs.Options.{some-is}
 
 pub list_any-at : {X : Type 0} (f : X → Bool) (xs : List X) (i : ℕ) (x : X) → slice_get xs i ≡ Some x → f x ≡ true → list_any f xs ≡ true
 list_any-at f [] i x e p = cc
-list_any-at f (y ∷ ys) zero x e p = or-left (f y) (list_any f ys) (subst (λ z. f z ≡ true) (sym (Some-is y x e)) p)
+list_any-at f (y ∷ ys) zero x e p = or-left (f y) (list_any f ys) (subst (λ z. f z ≡ true) (sym (some-is y x e)) p)
 list_any-at f (y ∷ ys) (suc i) x e p = or-right (f y) (list_any f ys) (list_any-at f ys i x e p)
 
 abbrev passing : (Layer → Bool) → List Layer → ℕ
@@ -82,7 +63,7 @@ module _ (r : Route) (ls : List Layer) where
       let left : can r ls (length ps) l ≡ true = subst (λ (n : ℕ). can r ls n l ≡ true) (sym same) (can-from l qs on) in
       let passes : (r.follows before l && can r ls (length ps) l) ≡ true = and-both (r.follows before l) (can r ls (length ps) l) goes left in
       let le : is_le (time_cmp (end_of (slice_get ls q)) (end_of (slice_get ls p))) ≡ true = rw (at, c.there) (times.cmp-le l.end m.end (c.greatest q l at passes)) in
-      let alike : time_cmp (end_of (slice_get ls q)) (end_of (slice_get ls p)) ≡ Equal → l.end ≡ m.end = λ x. times.cmp-is l.end m.end (rw (at, c.there) at x) in
+      let alike : time_cmp (end_of (slice_get ls q)) (end_of (slice_get ls p)) ≡ Equal → l.end ≡ m.end = λ x. times.cmp-Equal l.end m.end (rw (at, c.there) at x) in
       joined (time_cmp (end_of (slice_get ls q)) (end_of (slice_get ls p))) (slice_cmp time_cmp (ends ls qs) (ends ls ps)) (nat_cmp p q) (slice_cmp nat_cmp ps qs) le
       (λ x. low p q (c.lowest q l at passes (alike x)))
       (λ x. again m l qs same on (alike x) (λ zs g d. walks-best by (Some m) ps zs w g d))
@@ -127,7 +108,7 @@ module _ (r : Route) (ls : List Layer) where
   count-less : (f g : Layer → Bool) → ((l : Layer) → f l ≡ true → g l ≡ true) → (xs : List Layer) (i : ℕ) (l : Layer) → slice_get xs i ≡ Some l → f l ≡ false → g l ≡ true → passing f xs < passing g xs
   count-less f g sub [] i l at off on = cc
   count-less f g sub (x ∷ xs) zero l at off on =
-      let e = Some-is x l at in
+      let e = some-is x l at in
       let off' : f x ≡ false = ap f e ∙ off in
       let on' : g x ≡ true = ap g e ∙ on in
       let t = count-le f g sub xs in

@@ -2,12 +2,12 @@
 use Rattle.std.specs.Prelude.{◌≡◌, ℕ, zero, suc, Bool, false, not, ◌&&◌, ◌||◌, List, [], ◌∷◌, length, map, Option, Some, None}
 use Rattle.std.specs.List.{slice_get, list_all, find, flat_map, range_with_len}
 use Rattle.std.specs.Ordering.{is_le}
-use Rattle.mvcc_keys.specs.Times.{Time}
+use Rattle.mvcc_keys.specs.Times.{Time, latest, or_zero}
 use Rattle.chain_resolver.specs.declared.layer.Layer.{Layer}
 use Rattle.chain_resolver.specs.declared.faults.CoverFault.{CoverFault}
 use Rattle.chain_resolver.specs.declared.faults.CoverFault.TheVariants.{Memory}
 use Rattle.chain_resolver.specs.Ways.{AreOrdered, Route, IsBestWay, NoWay, chain_to, way_cmp}
-use Rattle.chain_resolver.specs.Cover.{CoverFaultIs, latest, or_zero, reason}
+use Rattle.chain_resolver.specs.Cover.{CoverFaultIs, reason}
 use Rattle.chain_resolver.specs.Reaching.{reached_times}
 
 -- there is a layer, and it passes

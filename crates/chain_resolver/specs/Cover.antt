@@ -1,7 +1,7 @@
 -- Why there is no chain, no join and no span.
-use Rattle.std.specs.Prelude.{◌≡◌, ℕ, ◌&&◌, not, Bool, true, List, Option, Some, None, map, filter, fold, if◌then◌else◌, ◌⊎◌}
+use Rattle.std.specs.Prelude.{◌≡◌, ℕ, ◌&&◌, not, Bool, true, List, Option, Some, None, map, filter, if◌then◌else◌, ◌⊎◌}
 use Rattle.std.specs.List.{list_any}
-use Rattle.mvcc_keys.specs.Times.{Time, zero_time, time_lt, time_le}
+use Rattle.mvcc_keys.specs.Times.{Time, zero_time, time_lt, time_le, earliest, latest, or_zero}
 use Rattle.chain_resolver.specs.declared.layer.Layer.{Layer}
 use Rattle.chain_resolver.specs.declared.faults.CoverFault.{CoverFault}
 use Rattle.chain_resolver.specs.declared.faults.CoverFault.TheVariants.{NotCovered, HistoryCollected, NeedsHistory, Gap, Memory}
@@ -10,24 +10,6 @@ use Rattle.chain_resolver.specs.declared.faults.JoinFault.TheVariants.{NoChain}
 use Rattle.chain_resolver.specs.declared.faults.SpanFault.{SpanFault}
 use Rattle.chain_resolver.specs.declared.faults.SpanFault.TheVariants.{NoSpan}
 use Rattle.chain_resolver.specs.Ways.{IsWay, NoWay, chain_to, join_between, serves, span_over}
-
-abbrev pub earlier : Option Time → Time → Option Time
-earlier None t = Some t
-earlier (Some s) t = if time_lt t s then Some t else Some s
-
-abbrev pub later : Option Time → Time → Option Time
-later None t = Some t
-later (Some s) t = if time_lt s t then Some t else Some s
-
-abbrev pub earliest : List Time → Option Time
-earliest ts = fold earlier None ts
-
-abbrev pub latest : List Time → Option Time
-latest ts = fold later None ts
-
-abbrev pub or_zero : Option Time → Time
-or_zero None = zero_time
-or_zero (Some t) = t
 
 -- has t in its interval: start < t <= end
 abbrev pub is_over : Time → Layer → Bool

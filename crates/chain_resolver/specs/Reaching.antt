@@ -1,9 +1,8 @@
 -- How far adjoining layers from zero reach, row after row.
 use Rattle.std.specs.Prelude.{ℕ, zero, suc, ◌||◌, ◌&&◌, Bool, false, List, map, filter}
 use Rattle.std.specs.List.{list_any, zip}
-use Rattle.mvcc_keys.specs.Times.{Time, zero_time, time_lt}
+use Rattle.mvcc_keys.specs.Times.{Time, zero_time, time_lt, time_eq}
 use Rattle.chain_resolver.specs.declared.layer.Layer.{Layer}
-use Rattle.chain_resolver.specs.Ways.{time_eq}
 
 -- whether adjoining layers from zero, at most k of them, lead up to the end of this one
 abbrev pub reach : List Layer → ℕ → Layer → Bool

@@ -1,15 +1,12 @@
 -- Ways through a list of layers, as lists of places, and the best of them: a chain to a time, a join of two times, a span over the changes between them.
-use Rattle.std.specs.Prelude.{◌≡◌, ℕ, Bool, true, ◌==◌, ◌&&◌, ◌||◌, List, [], ◌∷◌, Option, Some, None, length, map}
+use Rattle.std.specs.Prelude.{◌≡◌, ℕ, Bool, true, ◌&&◌, ◌||◌, List, [], ◌∷◌, Option, Some, None, length, map}
 use Rattle.std.specs.List.{slice_get, list_all}
 use Rattle.std.specs.Ordering.{nat_cmp, is_le, on, then_cmp, flip_args}
 use Rattle.std.specs.Cmp.Lexicographic.{slice_cmp}
 use Rattle.std.specs.declared.cmp.Ordering.{Ordering}
 use Rattle.mvcc_keys.specs.Codes.{time_cmp}
-use Rattle.mvcc_keys.specs.Times.{Time, zero_time, time_lt, time_le}
+use Rattle.mvcc_keys.specs.Times.{Time, zero_time, time_lt, time_le, time_eq}
 use Rattle.chain_resolver.specs.declared.layer.Layer.{Layer}
-
-abbrev pub time_eq : Time → Time → Bool
-time_eq s t = s.wall == t.wall && s.logical == t.logical
 
 -- each layer starts before its end
 abbrev pub are_ordered : List Layer → Bool

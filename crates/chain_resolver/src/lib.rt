@@ -8,7 +8,6 @@ mod laws;
 mod layer;
 mod reaching;
 mod reasons;
-mod row;
 mod search;
 mod task;
 
@@ -16,6 +15,3 @@ pub use chains::{join, resolve, span};
 pub use faults::{CoverFault, JoinFault, SpanFault};
 pub use laws::{best_way_is_unique, covers_are_found, reason_is_unique};
 pub use layer::{Layer, layers_are_ordered, serves};
-
-#[cfg(test)]
-mod tests;

@@ -1,14 +1,11 @@
 //! How far adjoining layers from zero reach.
 ghost use Rattle.std.specs.Prelude.{◌≡◌, ◌&&◌, map, filter, IfOk, length};
 ghost use Rattle.std.specs.List.{list_any, zip};
-ghost use Rattle.chain_resolver.specs.Ways.{time_eq};
-ghost use Rattle.chain_resolver.specs.Cover.{latest, or_zero};
+ghost use Rattle.mvcc_keys.specs.Times.{time_eq, latest, or_zero};
 ghost use Rattle.chain_resolver.specs.Reaching.{marked_times, reach, reach_on, reached_times};
 
 use crate::layer::Layer;
-use crate::reasons::{latest, time_or_zero};
-use crate::row::Row;
-use mvcc_keys::{Hlc, Memory};
+use mvcc_keys::{Hlc, Items, Memory, latest, time_or_zero};
 use std::alloc::{AllocError, Global};
 
 /// Whether a marked layer ends at `start`.
@@ -28,28 +25,28 @@ fn reaches(layers: &[Layer], row: &[bool], layer: &Layer) -> bool
 }
 
 /// The layers that start at zero or at the end of a marked one.
-fn reach_row(alloc: Global, layers: &[Layer], row: &[bool]) -> Result<Row, Memory>
+fn reach_row(alloc: Global, layers: &[Layer], row: &[bool]) -> Result<Items<bool>, Memory>
     ensures { IfOk result (λ next. next ≡ map (reach_on layers.now row.now) layers.now) }
 {
     let mut marks = Vec::new(alloc);
     for layer in layers {
         marks.push(reaches(layers, row, layer))?;
     }
-    Ok(Row::from_vec(marks))
+    Ok(Items::from_vec(marks))
 }
 
-fn no_row(alloc: Global, layers: &[Layer]) -> Result<Row, Memory>
+fn no_row(alloc: Global, layers: &[Layer]) -> Result<Items<bool>, Memory>
     ensures { IfOk result (λ row. row ≡ map (reach layers.now 0) layers.now) }
 {
     let mut marks = Vec::new(alloc);
     for _layer in layers {
         marks.push(false)?;
     }
-    Ok(Row::from_vec(marks))
+    Ok(Items::from_vec(marks))
 }
 
 /// The layers to whose ends adjoining layers from zero lead.
-fn last_row(alloc: Global, layers: &[Layer]) -> Result<Row, Memory>
+fn last_row(alloc: Global, layers: &[Layer]) -> Result<Items<bool>, Memory>
     ensures { IfOk result (λ row. row ≡ map (reach layers.now (length layers.now)) layers.now) }
 {
     let mut row = no_row(alloc, layers)?;

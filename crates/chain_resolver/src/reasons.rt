@@ -1,73 +1,14 @@
 //! The reason why no chain leads to a time.
 ghost use Rattle.std.specs.Prelude.{◌≡◌, ◌&&◌, map, filter, IfOk};
 ghost use Rattle.std.specs.List.{list_any};
-ghost use Rattle.mvcc_keys.specs.Times.{time_lt};
+ghost use Rattle.mvcc_keys.specs.Times.{time_lt, earlier, earliest, later, latest, or_zero};
 ghost use Rattle.chain_resolver.specs.Ways.{serves};
-ghost use Rattle.chain_resolver.specs.Cover.{earlier, earliest, ends_of, is_over, late_floors, later, latest, or_zero, reason, unserved};
+ghost use Rattle.chain_resolver.specs.Cover.{ends_of, is_over, late_floors, reason, unserved};
 
 use crate::faults::CoverFault;
 use crate::layer::{Layer, serves};
-use mvcc_keys::{Hlc, Memory};
+use mvcc_keys::{Hlc, Memory, earliest, latest, time_or_zero};
 use std::alloc::{AllocError, Global};
-
-fn earlier(best: Option<Hlc>, time: Hlc) -> Option<Hlc>
-    ensures { result ≡ earlier best time }
-{
-    match best {
-        None => Some(time),
-        Some(least) => {
-            if time < least {
-                Some(time)
-            } else {
-                Some(least)
-            }
-        }
-    }
-}
-
-fn later(best: Option<Hlc>, time: Hlc) -> Option<Hlc>
-    ensures { result ≡ later best time }
-{
-    match best {
-        None => Some(time),
-        Some(greatest) => {
-            if greatest < time {
-                Some(time)
-            } else {
-                Some(greatest)
-            }
-        }
-    }
-}
-
-fn earliest(times: &[Hlc]) -> Option<Hlc>
-    ensures { result ≡ earliest times.now }
-{
-    let mut best = None;
-    for time in times {
-        best = earlier(best, *time);
-    }
-    best
-}
-
-pub fn latest(times: &[Hlc]) -> Option<Hlc>
-    ensures { result ≡ latest times.now }
-{
-    let mut best = None;
-    for time in times {
-        best = later(best, *time);
-    }
-    best
-}
-
-pub fn time_or_zero(time: Option<Hlc>) -> Hlc
-    ensures { result ≡ or_zero time }
-{
-    match time {
-        None => Hlc::zero(),
-        Some(time) => time,
-    }
-}
 
 /// Whether a layer has `t` in its interval.
 fn is_over(layer: &Layer, t: Hlc) -> bool

@@ -1,15 +1,14 @@
 //! The search for the best way: for each number of layers that are left, the layers from which
 //! a way arrives with as many; then, from the start, the best of those that follow.
 ghost use Rattle.std.specs.Prelude.{◌≡◌, ℕ, ◌+◌, ◌-◌, ◌<◌, ◌≤◌, ◌&&◌, ◌||◌, suc, false, true, length, map, List, IfOk, MatchOption, if◌then◌else◌, Some, None, ◌++◌, ◌∷◌, [], OnOk};
-ghost use Rattle.mvcc_keys.specs.Times.{time_lt, time_le};
-ghost use Rattle.chain_resolver.specs.Ways.{IsBestWay, NoWay, time_eq, usable};
+ghost use Rattle.mvcc_keys.specs.Times.{time_lt, time_le, time_eq};
+ghost use Rattle.chain_resolver.specs.Ways.{IsBestWay, NoWay, usable};
 ghost use Rattle.chain_resolver.specs.Steps.{IsForward, Walks, can};
 ghost use Rattle.chain_resolver.specs.Tasks.{AreRows, BestBelow, CanStart, StartsAt, better, leads_on, leads_to, marked_of, route_of};
 
 use crate::layer::{Layer, serves};
-use crate::row::Row;
 use crate::task::Task;
-use mvcc_keys::{Hlc, Memory};
+use mvcc_keys::{Hlc, Items, Memory};
 use std::alloc::{AllocError, Global};
 
 /// Whether a layer tells the changes after `from` or after its start.
@@ -70,29 +69,39 @@ fn leads(next: &[Layer], task: &Task, layer: Layer) -> bool
 }
 
 /// The layers that one of some layers may follow.
-fn row_to(alloc: Global, layers: &[Layer], task: &Task, next: &[Layer]) -> Result<Row, Memory>
+fn row_to(
+    alloc: Global,
+    layers: &[Layer],
+    task: &Task,
+    next: &[Layer],
+) -> Result<Items<bool>, Memory>
     ensures { IfOk result (λ v. v ≡ map (leads_to (route_of task.now) next.now) layers.now) }
 {
     let mut marks = Vec::new(alloc);
     for layer in layers {
         marks.push(leads(next, task, *layer))?;
     }
-    Ok(Row::from_vec(marks))
+    Ok(Items::from_vec(marks))
 }
 
 /// The layers that may come last.
-fn first_row(alloc: Global, layers: &[Layer], task: &Task) -> Result<Row, Memory>
+fn first_row(alloc: Global, layers: &[Layer], task: &Task) -> Result<Items<bool>, Memory>
     ensures { IfOk result (λ row. row ≡ map (can (route_of task.now) layers.now 0) layers.now) }
 {
     let mut marks = Vec::new(alloc);
     for layer in layers {
         marks.push(arrives(task, layer))?;
     }
-    Ok(Row::from_vec(marks))
+    Ok(Items::from_vec(marks))
 }
 
 /// The layers that a layer of this row may follow.
-fn row_before(alloc: Global, layers: &[Layer], task: &Task, row: &[bool]) -> Result<Row, Memory>
+fn row_before(
+    alloc: Global,
+    layers: &[Layer],
+    task: &Task,
+    row: &[bool],
+) -> Result<Items<bool>, Memory>
     ensures { IfOk result (λ v. v ≡ map (leads_on (route_of task.now) layers.now row.now) layers.now) }
 {
     let next = marked_layers(alloc, layers, row)?;
@@ -158,14 +167,19 @@ fn put_place(places: &mut Vec<usize>, place: usize) -> Result<(), Memory>
     places.push(place).map_err(|_| Memory)
 }
 
-fn put_row(rows: &mut Vec<Row>, row: Row) -> Result<(), Memory>
+fn put_row(rows: &mut Vec<Items<bool>>, row: Items<bool>) -> Result<(), Memory>
     ensures { OnOk result (rows.new.items ≡ rows.old.items ++ (row ∷ [])) }
 {
     rows.push(row).map_err(|_| Memory)
 }
 
 /// The row of the layers from which a way arrives with one more layer.
-fn next_row(alloc: Global, layers: &[Layer], task: &Task, rows: &[Row]) -> Result<Row, Memory>
+fn next_row(
+    alloc: Global,
+    layers: &[Layer],
+    task: &Task,
+    rows: &[Items<bool>],
+) -> Result<Items<bool>, Memory>
     requires { AreRows (route_of task.now) layers.now rows.now }
     ensures { IfOk result (λ v. v ≡ map (can (route_of task.now) layers.now (length rows.now)) layers.now) }
 {
@@ -185,7 +199,12 @@ fn can_start(layers: &[Layer], task: &Task, row: &[bool]) -> bool
 }
 
 /// The places of a walk over these rows.
-fn walk(alloc: Global, layers: &[Layer], task: &Task, rows: &[Row]) -> Result<Vec<usize>, Memory>
+fn walk(
+    alloc: Global,
+    layers: &[Layer],
+    task: &Task,
+    rows: &[Items<bool>],
+) -> Result<Vec<usize>, Memory>
     requires rows { AreRows (route_of task.now) layers.now rows.now }
     requires start { StartsAt (route_of task.now) layers.now None (length rows.now) }
     ensures { IfOk result (λ v. (Walks (route_of task.now) layers.now None v.items) × (length v.items ≡ length rows.now)) }
@@ -209,7 +228,7 @@ pub fn best_way(alloc: Global, layers: &[Layer], task: &Task) -> Result<Option<V
     requires { IsForward (route_of task.now) layers.now }
     ensures { IfOk result (λ o. MatchOption o (NoWay (route_of task.now) layers.now) (λ v. IsBestWay (route_of task.now) layers.now v.items)) }
 {
-    let mut rows: Vec<Row> = Vec::new(alloc);
+    let mut rows: Vec<Items<bool>> = Vec::new(alloc);
     'rows: while rows.len() < layers.len() {
         let row = next_row(alloc, layers, task, rows.as_slice())?;
         let starts = can_start(layers, task, row.as_slice());

@@ -1,12 +1,13 @@
--- The calls of `open_gate` one by one, and what a read of the gate tells.
-use Rattle.std.proofs.Common.{◌≡◌, ◌≢◌, inl, inr, ℕ, Bool, true, false, List, [], ◌∷◌, Option, Some, Result, Ok, Err, OnOk, refl, sym, ◌∙◌, ap, subst}
+-- What `open_gate` leaves from call to call, and what a read of the gate tells.
+use Rattle.std.proofs.Common.{◌≡◌, ◌≢◌, inl, inr, ℕ, Bool, true, false, List, [], ◌∷◌, Some, Result, Ok, Err, OnOk, refl, sym, ◌∙◌, ap, subst}
 use Rattle.std.specs.Prelude.{◌↔◌, IsTrue}
 use Rattle.outside_world.specs.declared.call.DiskCall.{DiskCall}
 use Rattle.outside_world.specs.declared.disk.DiskFault.{DiskFault}
 use Rattle.outside_world.specs.Disk.{View, IsKnown, IsImage, Changes, OnlyReads, Settles}
 use Rattle.outside_world.specs.Moments.{AgreeBut, InEachImage}
 use Rattle.outside_world.specs.Objects.{Objects, at}
-use Rattle.outside_world.proofs.Runs.{Run, run_sync, run_synced, run_write, same_from, started}
+use Rattle.outside_world.proofs.PutSyncPut.{Stages}
+use Rattle.outside_world.proofs.Runs.{Run, run_synced, same_from, started}
 use Rattle.layer_model.specs.declared.names.LayerName.{LayerName}
 use Rattle.layer_model.specs.declared.names.Part.{Part}
 use Rattle.layer_model.specs.declared.names.Part.TheVariants.{Gate, Manifest, Chunk, Mark}
@@ -36,18 +37,10 @@ module _ (w : Layer) (older : List ℕ) (layer : LayerName) (bytes : List ℕ) (
   apart : AreApart w
   apart = parts_apart w may.may.few
 
-  pub begun : ¬ IsGateOpen layer first.objects → (IsKnown first → (image : Objects) → first.left_since first.moment image → IsImage first image) → Run P (Closed F w older first) first first
+  begun : ¬ IsGateOpen layer first.objects → (IsKnown first → (image : Objects) → first.left_since first.moment image → IsImage first image) → Run P (Closed F w older first) first first
   begun ne only = started may.may.known (only may.may.known)
       (λ image now. (kept_at_first F w older first image (may.may.safe image now) now, λ holds. ne (sym (now.same (object_name layer Gate) may.may.gate) ∙ ap (at image) (sym (name Gate)) ∙ holds)))
       (λ c q. q.0)
-
-  pub after_manifest : {value : Option (List ℕ)} {call : DiskCall} {result : Result (Unit {0}) DiskFault} {old new : View} → Run P (Closed F w older first) first old → Changes (object_name layer Manifest) value call result old new → Run P (Closed F w older first) first new
-  after_manifest run changes = run_write run changes
-      (λ source image q un agree. step_manifest F w older first source image apart (inr (name Manifest)) (subst (λ n. AgreeBut n source image) (sym (name Manifest)) agree) q)
-      (λ c q. q.0)
-
-  pub after_sync : {result : Result (Unit {0}) DiskFault} {old new : View} → Run P (Closed F w older first) first old → Settles result old new → Run P (Closed F w older first) first new
-  after_sync run settles = run_sync run settles (λ c q. q.0)
 
   -- the objects once the manifest is there
   module _ {call : DiskCall} {x : Unit {0}} {mid : View} (changes : Changes (object_name layer Manifest) (Some bytes) call (Ok x) first mid) where
@@ -60,21 +53,20 @@ module _ (w : Layer) (older : List ℕ) (layer : LayerName) (bytes : List ℕ) (
     ready_objects (Chunk i) has ne = stays (Chunk i) has (λ e. cc) (may.chunks i has)
     ready_objects (Mark i) has ne = stays (Mark i) has (λ e. cc) (may.marks i has)
 
-    -- all but the gate is on the disk
-    pub readied : {y : Unit {0}} {new : View} → Run P (Closed F w older first) first mid → Settles (Ok y) mid new → Run P AllReady first new
-    readied run settles = run_synced run settles
-        (λ image q equal. let all : IsReady w image = λ part has ne. equal (name_of w part) ∙ ready_objects part has ne in ((q.0, inl all), all))
-        (λ c q. q.0.0)
-
-  pub after_gate : {value : Option (List ℕ)} {call : DiskCall} {result : Result (Unit {0}) DiskFault} {old new : View} → Run P AllReady first old → Changes (object_name layer Gate) value call result old new → Run P AllReady first new
-  after_gate run changes = run_write run changes
-      (λ source image q un agree.
-      let here = subst (λ n. AgreeBut n source image) (sym (name Gate)) agree in
-      (step_gate F w older first source image apart (inl (name Gate)) here q.0, λ part has ne. here (name_of w part) (apart part Gate has tt ne) ∙ q.1 part has ne))
-      (λ c q. q.0.0)
-
-  pub after_last : {result : Result (Unit {0}) DiskFault} {old new : View} → Run P AllReady first old → Settles result old new → Run P AllReady first new
-  after_last run settles = run_sync run settles (λ c q. q.0.0)
+  pub stages : ¬ IsGateOpen layer first.objects → (IsKnown first → (image : Objects) → first.left_since first.moment image → IsImage first image) → Stages P (Closed F w older first) AllReady AllReady (object_name layer Manifest) bytes (object_name layer Gate) first
+  stages ne only = record {
+    begun = begun ne only;
+    on_put = λ source image q agree. step_manifest F w older first source image apart (inr (name Manifest)) (subst (λ n. AgreeBut n source image) (sym (name Manifest)) agree) q;
+    on_sync = λ call x mid changes image q equal.
+        let all : IsReady w image = λ part has ne. equal (name_of w part) ∙ ready_objects changes part has ne in
+        ((q.0, inl all), all);
+    on_gate = λ source image q agree.
+        let here = subst (λ n. AgreeBut n source image) (sym (name Gate)) agree in
+        (step_gate F w older first source image apart (inl (name Gate)) here q.0, λ part has ne. here (name_of w part) (apart part Gate has tt ne) ∙ q.1 part has ne);
+    before = λ c q. q.0;
+    between = λ c q. q.0.0;
+    after = λ c q. q.0.0;
+  }
 
   -- the gate is open on the disk
   pub opened : {call : DiskCall} {x : Unit {0}} {mid old new : View} → mid.tells ≡ true → Run P AllReady first old → Changes (object_name layer Gate) (Some (1 ∷ [])) call (Ok x) mid old → (result : Result (Unit {0}) DiskFault) → Settles result old new → OnOk result (InEachImage new (IsWhole w))

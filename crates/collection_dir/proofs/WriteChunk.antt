@@ -1,13 +1,13 @@
--- The calls of `store_chunk` one by one, and what a read of a mark tells.
+-- What `store_chunk` leaves from call to call, and what a read of a mark tells.
 use Rattle.std.proofs.Common.{◌≡◌, ◌≢◌, inl, inr, ℕ, Bool, true, false, List, Option, Some, Result, Ok, Err, OnOk, sym, ◌∙◌, ap, subst}
 use Rattle.std.specs.Prelude.{◌↔◌, IsTrue, option_map}
 use Rattle.sha2.specs.Sha256.{sha256}
-use Rattle.outside_world.specs.declared.call.DiskCall.{DiskCall}
 use Rattle.outside_world.specs.declared.disk.DiskFault.{DiskFault}
-use Rattle.outside_world.specs.Disk.{View, IsKnown, IsImage, Changes, OnlyReads, Settles}
+use Rattle.outside_world.specs.Disk.{View, IsKnown, IsImage, OnlyReads}
 use Rattle.outside_world.specs.Moments.{AgreeBut, InEachImage}
 use Rattle.outside_world.specs.Objects.{Objects, at}
-use Rattle.outside_world.proofs.Runs.{Run, run_sync, run_synced, run_write, same_from, started}
+use Rattle.outside_world.proofs.PutSyncPut.{Stages}
+use Rattle.outside_world.proofs.Runs.{Run, same_from, started}
 use Rattle.layer_model.specs.declared.names.LayerName.{LayerName}
 use Rattle.layer_model.specs.declared.names.Part.{Part}
 use Rattle.layer_model.specs.declared.names.Part.TheVariants.{Chunk, Mark}
@@ -36,7 +36,7 @@ module _ (w : Layer) (older : List ℕ) (layer : LayerName) (i : ℕ) (bytes : L
   mark_is : wanted w (Mark i) ≡ Some (sha256 bytes)
   mark_is = ap (option_map sha256) may.bytes_are
 
-  pub begun : at first.objects (object_name layer (Mark i)) ≢ Some (sha256 bytes) → (IsKnown first → (image : Objects) → first.left_since first.moment image → IsImage first image) → Run P (Unvouched F w older first i) first first
+  begun : at first.objects (object_name layer (Mark i)) ≢ Some (sha256 bytes) → (IsKnown first → (image : Objects) → first.left_since first.moment image → IsImage first image) → Run P (Unvouched F w older first i) first first
   begun ne only = started may.may.known (only may.may.known)
       (λ image now. (
         kept_at_first F w older first image (may.may.safe image now) now,
@@ -44,24 +44,16 @@ module _ (w : Layer) (older : List ℕ) (layer : LayerName) (i : ℕ) (bytes : L
       ))
       (λ c q. q.0)
 
-  pub after_put : {value : Option (List ℕ)} {call : DiskCall} {result : Result (Unit {0}) DiskFault} {old new : View} → Run P (Unvouched F w older first i) first old → Changes (object_name layer (Chunk i)) value call result old new → Run P (Unvouched F w older first i) first new
-  after_put run changes = run_write run changes
-      (λ source image q un agree. step_chunk F w older first source image apart i may.has (inl (name (Chunk i))) (subst (λ n. AgreeBut n source image) (sym (name (Chunk i))) agree) q)
-      (λ c q. q.0)
-
-  pub after_sync : {result : Result (Unit {0}) DiskFault} {old new : View} → Run P (Unvouched F w older first i) first old → Settles result old new → Run P (Unvouched F w older first i) first new
-  after_sync run settles = run_sync run settles (λ c q. q.0)
-
-  -- the chunk is on the disk
-  pub staged : {call : DiskCall} {x y : Unit {0}} {mid old new : View} → mid.tells ≡ true → Run P (Unvouched F w older first i) first old → Changes (object_name layer (Chunk i)) (Some bytes) call (Ok x) mid old → Settles (Ok y) old new → Run P (Staged F w older first i) first new
-  staged tells run changes settles = run_synced run settles
-      (λ image q equal. (q.0, q.1, ap (at image) (name (Chunk i)) ∙ equal (object_name layer (Chunk i)) ∙ (changes.content tells).written ∙ sym may.bytes_are))
-      (λ c q. q.0)
-
-  pub after_mark : {value : Option (List ℕ)} {call : DiskCall} {result : Result (Unit {0}) DiskFault} {old new : View} → Run P (Staged F w older first i) first old → Changes (object_name layer (Mark i)) value call result old new → Run P (Stored F w older first i) first new
-  after_mark run changes = run_write run changes
-      (λ source image q un agree. step_mark F w older first source image apart i may.has (inr (name (Mark i))) (subst (λ n. AgreeBut n source image) (sym (name (Mark i))) agree) q)
-      (λ c q. q.0)
+  pub stages : at first.objects (object_name layer (Mark i)) ≢ Some (sha256 bytes) → (IsKnown first → (image : Objects) → first.left_since first.moment image → IsImage first image) → Stages P (Unvouched F w older first i) (Staged F w older first i) (Stored F w older first i) (object_name layer (Chunk i)) bytes (object_name layer (Mark i)) first
+  stages ne only = record {
+    begun = begun ne only;
+    on_put = λ source image q agree. step_chunk F w older first source image apart i may.has (inl (name (Chunk i))) (subst (λ n. AgreeBut n source image) (sym (name (Chunk i))) agree) q;
+    on_sync = λ call x mid changes image q equal. (q.0, q.1, ap (at image) (name (Chunk i)) ∙ equal (object_name layer (Chunk i)) ∙ (changes.content may.may.known.tells).written ∙ sym may.bytes_are);
+    on_gate = λ source image q agree. step_mark F w older first source image apart i may.has (inr (name (Mark i))) (subst (λ n. AgreeBut n source image) (sym (name (Mark i))) agree) q;
+    before = λ c q. q.0;
+    between = λ c q. q.0;
+    after = λ c q. q.0;
+  }
 
   pub stored_on_ok : (result : Result (Unit {0}) DiskFault) {new : View} → Run P (Stored F w older first i) first new → OnOk result (InEachImage new (Holds w (Chunk i)))
   stored_on_ok (Ok x) run = λ image now. (run.here image now).1

@@ -1,6 +1,6 @@
 -- When a call on a layer's objects may answer a fault. Each of those calls cites this.
-use Rattle.std.specs.Prelude.{◌≡◌, ◌≤◌, ◌-◌, ◌^◌, ℕ, Result, MatchResult}
-use Rattle.outside_world.specs.Causes.{Rose}
+use Rattle.std.specs.Prelude.{ℕ, Bool, true, false, Result}
+use Rattle.outside_world.specs.Causes.{Counted, HasCauseBy}
 use Rattle.outside_world.specs.declared.disk.DiskFault.{DiskFault}
 use Rattle.outside_world.specs.declared.disk.DiskFault.TheVariants as disk
 use Rattle.collection_dir.specs.declared.fault.DirFault.{DirFault}
@@ -11,19 +11,19 @@ abbrev pub fault_of : DiskFault → DirFault
 fault_of disk.Failed = Failed
 fault_of disk.Memory = Memory
 
--- the disk failed just where the fault says so
-abbrev pub CountsAs : DirFault → ℕ → ℕ → Type 0
-CountsAs Failed before now = Rose before now
-CountsAs Memory before now = now ≡ before
-CountsAs (Damaged object wanted found) before now = now ≡ before
-CountsAs (Malformed object offset) before now = now ≡ before
-CountsAs (LayerDiffers object wanted found) before now = now ≡ before
+-- the disk's failures are counted, and nothing else is
+abbrev pub is_failure : DirFault → Bool
+is_failure Failed = true
+is_failure Memory = false
+is_failure (Damaged object wanted found) = false
+is_failure (Malformed object offset) = false
+is_failure (LayerDiffers object wanted found) = false
 
--- the count of the disk's faults never falls and stays in 64 bits; it rose where the answer is Failed, and is as before at every other
-pub record DirHasCause {T : Type 0} (before now : ℕ) (result : Result T DirFault) : Type 0 where
-  pub later : before ≤ now
-  pub capped : before ≤ 2 ^ 64 - 1 → now ≤ 2 ^ 64 - 1
-  pub counts : MatchResult result (λ _. now ≡ before) (λ e. CountsAs e before now)
+abbrev pub CountsAs : DirFault → ℕ → ℕ → Type 0
+CountsAs fault before now = Counted (is_failure fault) before now
+
+abbrev pub DirHasCause : {T : Type 0} → ℕ → ℕ → Result T DirFault → Type 0
+DirHasCause before now result = HasCauseBy is_failure before now result
 
 -- the disk's faults and want of memory alone
 abbrev pub IsDiskFault : DirFault → Type 0

@@ -32,3 +32,12 @@ abbrev pub DiffersOnlyOver : LayerName → Manifest → Objects → DirFault →
 DiffersOnlyOver layer m objects (LayerDiffers object wanted found) =
     IsGateOpen layer objects × ¬ IsManifestOf m (at objects (object_name layer part.Manifest)) × (found ≡ option_map sha256 (at objects (object_name layer part.Manifest)))
 DiffersOnlyOver layer m objects e = Unit {0}
+
+-- Want of memory, or that what is there are the bytes of the manifest in neither version. The digest wanted is that of version 2.
+abbrev pub IsDifference : LayerName → Manifest → Option (List ℕ) → DirFault → Type 0
+IsDifference layer m there Memory = Unit {0}
+IsDifference layer m there (LayerDiffers object wanted found) =
+    (object ≡ object_name layer part.Manifest) × (wanted ≡ sha256 (manifest_code m)) × (¬ IsManifestOf m there) × (found ≡ option_map sha256 there)
+IsDifference layer m there Failed = ⊥
+IsDifference layer m there (Damaged object wanted found) = ⊥
+IsDifference layer m there (Malformed object offset) = ⊥

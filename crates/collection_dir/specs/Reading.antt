@@ -5,7 +5,7 @@ use Rattle.sha2.specs.Sha256.{sha256}
 use Rattle.outside_world.specs.Objects.{Objects, at}
 use Rattle.layer_manifest.specs.declared.manifest.Manifest.{Manifest}
 use Rattle.layer_manifest.specs.ManifestFiles as files
-use Rattle.layer_manifest.specs.Manifests.{same_time}
+use Rattle.mvcc_keys.specs.Times.{time_eq}
 use Rattle.layer_model.specs.declared.names.LayerName.{LayerName}
 use Rattle.layer_model.specs.declared.names.Part.TheVariants as part
 use Rattle.layer_model.specs.Names.{object_name}
@@ -31,7 +31,7 @@ DamagedAsHeld layer i objects e = Unit {0}
 
 -- its cluster, job and times are those of the layer's name
 abbrev pub is_manifest_of : LayerName → Manifest → Bool
-is_manifest_of layer m = bytes_eq m.cluster layer.cluster && (m.job == layer.job) && same_time m.full layer.full && same_time m.start layer.start && same_time m.end layer.end
+is_manifest_of layer m = bytes_eq m.cluster layer.cluster && (m.job == layer.job) && time_eq m.full layer.full && time_eq m.start layer.start && time_eq m.end layer.end
 
 -- one that reads, but belongs to another name, is malformed at 4, where its first item after the version begins
 abbrev pub named_manifest : LayerName → Result Manifest ℕ → Result Manifest ℕ

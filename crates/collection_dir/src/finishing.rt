@@ -11,7 +11,7 @@ ghost use Rattle.layer_model.specs.Layers.{Layer, IsWhole};
 ghost use Rattle.layer_model.specs.Names.{object_name};
 ghost use Rattle.collection_dir.specs.declared.fault.DirFault.TheVariants.{LayerDiffers};
 ghost use Rattle.collection_dir.specs.Faults.{DirHasCause};
-ghost use Rattle.collection_dir.specs.Finishing.{DiffersOnlyOver, IsFinishFault, IsGateOpen, IsManifestOf};
+ghost use Rattle.collection_dir.specs.Finishing.{DiffersOnlyOver, IsDifference, IsFinishFault, IsGateOpen, IsManifestOf};
 ghost use Rattle.collection_dir.specs.Footprints.{AtFinish, finish_calls};
 ghost use Rattle.collection_dir.specs.Safety.{IsKept, IsWholeInEither, MayFinish};
 
@@ -71,6 +71,35 @@ fn is_manifest(
     Ok(is_found(found, &first))
 }
 
+/// Refuses what was found, unless it are the bytes of this manifest in either version.
+fn check_manifest(
+    alloc: Global,
+    layer: &LayerName,
+    m: &Manifest,
+    bytes: &[u8],
+    found: &Option<Vec<u8>>,
+) -> Result<(), DirFault>
+    requires proper { IsProperManifest m.now }
+    requires spelled { bytes.now ≡ manifest_code m.now }
+    ensures same { OnOk result (IsManifestOf m.now (option_map (λ v. v.items) found.now)) }
+    ensures fault { IfErr result (IsDifference layer.now m.now (option_map (λ v. v.items) found.now)) }
+{
+    if is_manifest(alloc, m, bytes, found)? {
+        return Ok(());
+    }
+    Err(differs(alloc, layer, bytes, found)?)
+}
+
+/// Whether the gate is open.
+fn is_gate_open<D: Disk>(alloc: Global, disk: &mut D, layer: &LayerName) -> Result<bool, DiskFault>
+    ensures open { Tells (D.view disk.old) → IfOk result (λ is_open. IsTrue is_open ↔ IsGateOpen layer.now (D.view disk.old).objects) }
+    ensures reads { OnlyReads (D.view disk.old) (D.view disk.new) }
+    ensures cause { DiskHasCause (D.view disk.old).faults (D.view disk.new).faults result }
+{
+    let found = get_part(alloc, disk, layer, Part::Gate)?;
+    Ok(is_found(&found, &OPEN))
+}
+
 /// Whether the gate is open over this manifest.
 fn is_finished<D: Disk>(
     alloc: Global,
@@ -88,15 +117,12 @@ fn is_finished<D: Disk>(
     ensures fault { IfErr result (IsFinishFault layer.now m.now) }
     ensures cause { DirHasCause (D.view disk.old).faults (D.view disk.new).faults result }
 {
-    let found = get_part(alloc, disk, layer, Part::Gate)?;
-    if !is_found(&found, &OPEN) {
+    if !is_gate_open(alloc, disk, layer)? {
         return Ok(false);
     }
     let found = get_part(alloc, disk, layer, Part::Manifest)?;
-    if is_manifest(alloc, m, bytes, &found)? {
-        return Ok(true);
-    }
-    Err(differs(alloc, layer, bytes, &found)?)
+    check_manifest(alloc, layer, m, bytes, &found)?;
+    Ok(true)
 }
 
 /// Puts the manifest, and once it is on the disk opens the gate.

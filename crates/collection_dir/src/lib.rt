@@ -16,6 +16,3 @@ pub use finishing::finish_layer;
 pub use forgetting::forget_layer;
 pub use laws::one_layer_may_change_in_either;
 pub use reading::{read_chunk, read_manifest};
-
-#[cfg(test)]
-mod tests;

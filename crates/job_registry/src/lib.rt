@@ -6,6 +6,3 @@ mod state;
 
 pub use registry::{Held, Registry};
 pub use state::{JobRefusal, JobState};
-
-#[cfg(test)]
-mod tests;

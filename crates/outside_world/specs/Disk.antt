@@ -1,10 +1,10 @@
 -- What a disk means, and what each of its calls does to that. The trait cites this.
-use Rattle.std.specs.Prelude.{◌≡◌, ◌≢◌, ◌≤◌, ◌⊎◌, ◌-◌, ◌^◌, ℕ, Bool, true, false, List, [], ◌∷◌, ◌++◌, Option, Result, Ok, Err, OnOk, OnErr, IsErrOf}
+use Rattle.std.specs.Prelude.{◌≡◌, ◌≢◌, ◌≤◌, ◌⊎◌, ℕ, Bool, true, false, List, [], ◌∷◌, ◌++◌, Option, Result, Ok, Err, OnOk, OnErr, IsErrOf}
 use Rattle.outside_world.specs.declared.call.DiskCall.{DiskCall}
 use Rattle.outside_world.specs.declared.call.DiskCall.TheVariants.{Sync}
 use Rattle.outside_world.specs.declared.disk.DiskFault.{DiskFault}
 use Rattle.outside_world.specs.declared.disk.DiskFault.TheVariants.{Failed, Memory}
-use Rattle.outside_world.specs.Causes.{Rose}
+use Rattle.outside_world.specs.Causes.{HasCauseBy}
 use Rattle.outside_world.specs.Objects.{Objects, at, MayLeave}
 
 -- a disk at one moment
@@ -92,13 +92,13 @@ pub record Settles {T : Type 0} (result : Result T DiskFault) (old new : View) :
   pub time : Elapses old new
   pub content : Tells old → Syncs result old new
 
--- the count never falls and stays in 64 bits; it rose where the answer is Failed, and is as before at every other
-pub record DiskHasCause {T : Type 0} (before now : ℕ) (result : Result T DiskFault) : Type 0 where
-  pub later : before ≤ now
-  pub capped : before ≤ 2 ^ 64 - 1 → now ≤ 2 ^ 64 - 1
-  pub failed : IsErrOf result Failed → Rose before now
-  pub kept : OnOk result (now ≡ before)
-  pub memory : IsErrOf result Memory → now ≡ before
+-- the disk counts its failures, and no want of memory
+abbrev pub is_failure : DiskFault → Bool
+is_failure Failed = true
+is_failure Memory = false
+
+abbrev pub DiskHasCause : {T : Type 0} → ℕ → ℕ → Result T DiskFault → Type 0
+DiskHasCause before now result = HasCauseBy is_failure before now result
 
 pub never_known : false ≡ true → ⊥
 never_known e = cc

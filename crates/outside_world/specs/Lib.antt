@@ -1,3 +1,4 @@
+pub mod CallTexts
 pub mod Causes
 pub mod Disk
 pub mod Entries

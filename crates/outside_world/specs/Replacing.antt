@@ -1,4 +1,4 @@
--- What the caller that tests the disk's clauses promises.
+-- What `replace` promises: a gate that is open is open over the new bytes.
 use Rattle.std.specs.Prelude.{◌≡◌, ◌≢◌, ℕ, List, [], ◌∷◌, Some}
 use Rattle.outside_world.specs.Disk.{View, IsKnown, IsImage}
 use Rattle.outside_world.specs.Moments.{InEachImage}

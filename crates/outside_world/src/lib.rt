@@ -14,15 +14,13 @@ mod sure;
 mod sure_disk;
 mod traits;
 
-pub use call::DiskCall;
+pub use call::{DiskCall, calls_text};
 pub use disk::{Disk, DiskFault};
 pub use folder::FolderDisk;
 pub use memory::{MemorySink, MemorySource};
 pub use memory_disk::MemoryDisk;
+pub use replacing::replace;
 pub use standard::{StdSink, StdSource};
 pub use sure::{SureSink, SureSource, sure_streams_never_fail};
 pub use sure_disk::{SureDisk, sure_disks_never_fail};
 pub use traits::{Failed, Sink, Source};
-
-#[cfg(test)]
-mod tests;

@@ -1,4 +1,4 @@
-//! A test of what the disk's clauses are worth: they alone prove this caller.
+//! Bytes put with a gate over them.
 ghost use Rattle.std.specs.Prelude.{◌≡◌, ◌≢◌, ◌⊎◌, [], ◌∷◌, ℕ, List, OnOk};
 ghost use Rattle.outside_world.specs.Disk.{DiskHasCause};
 ghost use Rattle.outside_world.specs.Moments.{ChangesOnly, InEachImage, LeavesOnly, NoName};
@@ -9,7 +9,7 @@ use mvcc_keys::Text;
 
 /// Puts the bytes, and once they are on the disk opens a gate over them. A crash at any moment
 /// leaves the gate as it was, or open over these very bytes.
-pub(crate) fn replace<D: Disk>(
+pub fn replace<D: Disk>(
     disk: &mut D,
     name: &Text,
     bytes: &[u8],

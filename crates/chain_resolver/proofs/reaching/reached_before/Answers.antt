@@ -1,6 +1,5 @@
 use Rattle.std.proofs.Common.{length, ◌∙◌, ap, List}
-use Rattle.mvcc_keys.specs.Times.{Time}
-use Rattle.chain_resolver.specs.Cover.{latest, or_zero}
+use Rattle.mvcc_keys.specs.Times.{Time, latest, or_zero}
 use Rattle.chain_resolver.proofs.Covers.{marked-reached}
 use Rattle.chain_resolver.proofs.reaching.reached_before.Goals as goal
 

@@ -1,45 +1,34 @@
 use Rattle.std.proofs.Common.{inl, inr, refl, ◌∙◌}
-use Rattle.outside_world.proofs.Runs.{only_put, only_sync, only_then}
+use Rattle.outside_world.proofs.PutSyncPut.{only_put_sync, only_put_sync_put, run_gate, run_put, run_put_sync}
+use Rattle.outside_world.proofs.Runs.{only_put}
 use Rattle.layer_model.specs.declared.names.Part.TheVariants.{Chunk, Mark}
 use Rattle.layer_model.specs.Names.{object_name}
 use Rattle.collection_dir.proofs.Parts.{names_apart, on_ok, through_change, through_sync}
-use Rattle.collection_dir.proofs.WriteChunk.{after_mark, after_put, after_sync, begun, staged, stored_on_ok}
+use Rattle.collection_dir.proofs.WriteChunk.{stages, stored_on_ok}
 use Rattle.collection_dir.proofs.chunks.store_chunk.Goals as goal
 
 pub returns-in_err-put_part-clause-layer : goal.returns-in_err-put_part-clause-layer
-returns-in_err-put_part-clause-layer g c w older may ne =
-    let run0 = begun w older _ _ _ _ may ne (g.met.D.Disk.only_now c.args.disk.now) in
-    (after_put w older _ _ _ _ may run0 c.put_part.ensures.changes).so_far
+returns-in_err-put_part-clause-layer g c w older may ne = (run_put (stages w older _ _ _ _ may ne (g.met.D.Disk.only_now c.args.disk.now)) c.put_part.ensures.changes).so_far
 
 pub returns-in_err-sync-clause-layer : goal.returns-in_err-sync-clause-layer
-returns-in_err-sync-clause-layer g c w older may ne =
-    let run0 = begun w older _ _ _ _ may ne (g.met.D.Disk.only_now c.args.disk.now) in
-    let run1 = after_put w older _ _ _ _ may run0 c.put_part.ensures.changes in
-    (after_sync w older _ _ _ _ may run1 c.sync.ensures.settles).so_far
+returns-in_err-sync-clause-layer g c w older may ne = (run_put_sync (stages w older _ _ _ _ may ne (g.met.D.Disk.only_now c.args.disk.now)) c.put_part.ensures.changes c.sync.ensures.settles).so_far
 
 pub returns-clause-layer : goal.returns-clause-layer
 returns-clause-layer g c w older may ne =
-    let run0 = begun w older _ _ _ _ may ne (g.met.D.Disk.only_now c.args.disk.now) in
-    let run1 = after_put w older _ _ _ _ may run0 c.put_part.ensures.changes in
-    let run2 = staged w older _ _ _ _ may may.may.known.tells run1 c.in_ok-put_part.ensures.changes c.in_ok-sync.ensures.settles in
-    (after_mark w older _ _ _ _ may run2 c.put_part-2.ensures.changes).so_far
+    (run_gate (stages w older _ _ _ _ may ne (g.met.D.Disk.only_now c.args.disk.now)) c.in_ok-put_part.ensures.changes c.in_ok-sync.ensures.settles c.put_part-2.ensures.changes).so_far
 
 pub returns-clause-stored : goal.returns-clause-stored
 returns-clause-stored g c w older may ne =
-    let run0 = begun w older _ _ _ _ may ne (g.met.D.Disk.only_now c.args.disk.now) in
-    let run1 = after_put w older _ _ _ _ may run0 c.put_part.ensures.changes in
-    let run2 = staged w older _ _ _ _ may may.may.known.tells run1 c.in_ok-put_part.ensures.changes c.in_ok-sync.ensures.settles in
-    stored_on_ok w older _ _ _ _ may c.put_part-2.result (after_mark w older _ _ _ _ may run2 c.put_part-2.ensures.changes)
+    stored_on_ok w older _ _ _ _ may c.put_part-2.result (run_gate (stages w older _ _ _ _ may ne (g.met.D.Disk.only_now c.args.disk.now)) c.in_ok-put_part.ensures.changes c.in_ok-sync.ensures.settles c.put_part-2.ensures.changes)
 
 pub returns-in_err-put_part-clause-changes : goal.returns-in_err-put_part-clause-changes
 returns-in_err-put_part-clause-changes g c = only_put (inl refl) c.put_part.ensures.changes
 
 pub returns-in_err-sync-clause-changes : goal.returns-in_err-sync-clause-changes
-returns-in_err-sync-clause-changes g c = only_then (only_put (inl refl) c.put_part.ensures.changes) (only_sync c.sync.ensures.settles)
+returns-in_err-sync-clause-changes g c = only_put_sync (inl refl) c.put_part.ensures.changes c.sync.ensures.settles
 
 pub returns-clause-changes : goal.returns-clause-changes
-returns-clause-changes g c =
-    only_then (only_put (inl refl) c.put_part.ensures.changes) (only_then (only_sync c.sync.ensures.settles) (only_put (inr refl) c.put_part-2.ensures.changes))
+returns-clause-changes g c = only_put_sync_put (inl refl) (inr refl) c.put_part.ensures.changes c.sync.ensures.settles c.put_part-2.ensures.changes
 
 pub returns-clause-put : goal.returns-clause-put
 returns-clause-put g c tells =

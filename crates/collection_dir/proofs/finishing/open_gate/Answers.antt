@@ -1,59 +1,44 @@
 use Rattle.std.proofs.Common.{inl, inr, refl, ◌∙◌}
-use Rattle.outside_world.proofs.Runs.{only_put, only_sync, only_then}
+use Rattle.outside_world.proofs.PutSyncPut.{only_put_sync, only_put_sync_put, only_put_sync_put_sync, run_gate, run_last, run_put, run_put_sync, run_ready}
+use Rattle.outside_world.proofs.Runs.{only_put}
 use Rattle.layer_model.specs.declared.names.Part.TheVariants.{Gate, Manifest}
 use Rattle.layer_model.specs.Names.{object_name}
 use Rattle.collection_dir.proofs.Parts.{names_apart, on_ok, through_change, through_sync}
-use Rattle.collection_dir.proofs.OpenGate.{after_gate, after_last, after_manifest, after_sync, begun, opened, readied}
+use Rattle.collection_dir.proofs.OpenGate.{opened, stages}
 use Rattle.collection_dir.proofs.finishing.open_gate.Goals as goal
 
 pub returns-in_err-put_part-clause-layer : goal.returns-in_err-put_part-clause-layer
-returns-in_err-put_part-clause-layer g c w older may ne =
-    let run0 = begun w older _ _ _ may ne (g.met.D.Disk.only_now c.args.disk.now) in
-    (after_manifest w older _ _ _ may run0 c.put_part.ensures.changes).so_far
+returns-in_err-put_part-clause-layer g c w older may ne = (run_put (stages w older _ _ _ may ne (g.met.D.Disk.only_now c.args.disk.now)) c.put_part.ensures.changes).so_far
 
 pub returns-in_err-sync-clause-layer : goal.returns-in_err-sync-clause-layer
-returns-in_err-sync-clause-layer g c w older may ne =
-    let run0 = begun w older _ _ _ may ne (g.met.D.Disk.only_now c.args.disk.now) in
-    let run1 = after_manifest w older _ _ _ may run0 c.put_part.ensures.changes in
-    (after_sync w older _ _ _ may run1 c.sync.ensures.settles).so_far
+returns-in_err-sync-clause-layer g c w older may ne = (run_put_sync (stages w older _ _ _ may ne (g.met.D.Disk.only_now c.args.disk.now)) c.put_part.ensures.changes c.sync.ensures.settles).so_far
 
 pub returns-in_err-put_part-2-clause-layer : goal.returns-in_err-put_part-2-clause-layer
 returns-in_err-put_part-2-clause-layer g c w older may ne =
-    let run0 = begun w older _ _ _ may ne (g.met.D.Disk.only_now c.args.disk.now) in
-    let run1 = after_manifest w older _ _ _ may run0 c.put_part.ensures.changes in
-    let run2 = readied w older _ _ _ may c.in_ok-put_part.ensures.changes run1 c.in_ok-sync.ensures.settles in
-    (after_gate w older _ _ _ may run2 c.put_part-2.ensures.changes).so_far
+    (run_gate (stages w older _ _ _ may ne (g.met.D.Disk.only_now c.args.disk.now)) c.in_ok-put_part.ensures.changes c.in_ok-sync.ensures.settles c.put_part-2.ensures.changes).so_far
 
 pub returns-clause-layer : goal.returns-clause-layer
 returns-clause-layer g c w older may ne =
-    let run0 = begun w older _ _ _ may ne (g.met.D.Disk.only_now c.args.disk.now) in
-    let run1 = after_manifest w older _ _ _ may run0 c.put_part.ensures.changes in
-    let run2 = readied w older _ _ _ may c.in_ok-put_part.ensures.changes run1 c.in_ok-sync.ensures.settles in
-    let run3 = after_gate w older _ _ _ may run2 c.put_part-2.ensures.changes in
-    (after_last w older _ _ _ may run3 c.sync-2.ensures.settles).so_far
+    (run_last (stages w older _ _ _ may ne (g.met.D.Disk.only_now c.args.disk.now)) c.in_ok-put_part.ensures.changes c.in_ok-sync.ensures.settles c.put_part-2.ensures.changes c.sync-2.ensures.settles).so_far
 
 pub returns-clause-whole : goal.returns-clause-whole
 returns-clause-whole g c w older may ne =
-    let run0 = begun w older _ _ _ may ne (g.met.D.Disk.only_now c.args.disk.now) in
-    let run1 = after_manifest w older _ _ _ may run0 c.put_part.ensures.changes in
-    let run2 = readied w older _ _ _ may c.in_ok-put_part.ensures.changes run1 c.in_ok-sync.ensures.settles in
-    let run3 = after_gate w older _ _ _ may run2 c.put_part-2.ensures.changes in
-    opened w older _ _ _ may run2.known.tells run3 c.in_ok-put_part-2.ensures.changes c.sync-2.result c.sync-2.ensures.settles
+    let steps = stages w older _ _ _ may ne (g.met.D.Disk.only_now c.args.disk.now) in
+    let ready = run_ready steps c.in_ok-put_part.ensures.changes c.in_ok-sync.ensures.settles in
+    let gated = run_gate steps c.in_ok-put_part.ensures.changes c.in_ok-sync.ensures.settles c.put_part-2.ensures.changes in
+    opened w older _ _ _ may ready.known.tells gated c.in_ok-put_part-2.ensures.changes c.sync-2.result c.sync-2.ensures.settles
 
 pub returns-in_err-put_part-clause-changes : goal.returns-in_err-put_part-clause-changes
 returns-in_err-put_part-clause-changes g c = only_put (inr refl) c.put_part.ensures.changes
 
 pub returns-in_err-sync-clause-changes : goal.returns-in_err-sync-clause-changes
-returns-in_err-sync-clause-changes g c = only_then (only_put (inr refl) c.put_part.ensures.changes) (only_sync c.sync.ensures.settles)
+returns-in_err-sync-clause-changes g c = only_put_sync (inr refl) c.put_part.ensures.changes c.sync.ensures.settles
 
 pub returns-in_err-put_part-2-clause-changes : goal.returns-in_err-put_part-2-clause-changes
-returns-in_err-put_part-2-clause-changes g c =
-    only_then (only_put (inr refl) c.put_part.ensures.changes) (only_then (only_sync c.sync.ensures.settles) (only_put (inl refl) c.put_part-2.ensures.changes))
+returns-in_err-put_part-2-clause-changes g c = only_put_sync_put (inr refl) (inl refl) c.put_part.ensures.changes c.sync.ensures.settles c.put_part-2.ensures.changes
 
 pub returns-clause-changes : goal.returns-clause-changes
-returns-clause-changes g c =
-    only_then (only_put (inr refl) c.put_part.ensures.changes)
-    (only_then (only_sync c.sync.ensures.settles) (only_then (only_put (inl refl) c.put_part-2.ensures.changes) (only_sync c.sync-2.ensures.settles)))
+returns-clause-changes g c = only_put_sync_put_sync (inr refl) (inl refl) c.put_part.ensures.changes c.sync.ensures.settles c.put_part-2.ensures.changes c.sync-2.ensures.settles
 
 pub returns-clause-put : goal.returns-clause-put
 returns-clause-put g c tells =

@@ -27,7 +27,7 @@ loop-i-preserved g c = record {
   absent = λ tells. absent_more c.args.layer.now Mark c.loop-i.i (λ k lt. names_apart c.args.layer.now (Mark k) (Mark c.loop-i.i) (omega (arith, lt, c.loop-i-test.true, c.requires)) (omega (arith, c.loop-i-test.true, c.requires)) (λ e. let same : k ≡ c.loop-i.i = cc in omega (arith, lt, same))) (c.loop-i.invariant.changes.kind.tells ∙ tells) c.in_ok-remove_part.ensures.changes (c.loop-i.invariant.absent tells);
   calls = λ tells. (c.in_ok-remove_part.ensures.changes.content (c.loop-i.invariant.changes.kind.tells ∙ tells)).calls ∙ removed_more c.args.layer.now Mark c.loop-i.i _ _ (c.loop-i.invariant.calls tells);
   changes = only_then c.loop-i.invariant.changes (only_remove (_, c.loop-i-test.true, refl) c.remove_part.ensures.changes);
-  faults = c.in_ok-remove_part.ensures.cause.kept ∙ c.loop-i.invariant.faults;
+  faults = c.in_ok-remove_part.ensures.cause.counts ∙ c.loop-i.invariant.faults;
 }
 
 pub returns-clause-layer : goal.returns-clause-layer

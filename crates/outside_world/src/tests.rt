@@ -1,2 +1,0 @@
-mod disks;
-mod streams;
