@@ -1,5 +1,5 @@
 -- Histories: databases, and tables of dated facts and dated descriptors.
-use Rattle.std.specs.Prelude.{ℕ, ◌+◌, Bool, true, false, not, ◌&&◌, List, map, reverse, Option, Some, None, option_map, option_and_then, unwrap_or, position, slice_get, sum_by, length}
+use Rattle.std.specs.Prelude.{ℕ, Bool, true, false, not, ◌&&◌, List, map, reverse, Option, option_map, option_and_then, unwrap_or, position, slice_get, sum_by, length}
 use Rattle.std.specs.List.{find}
 use Rattle.std.specs.Str.{bytes_eq}
 use Rattle.std.specs.declared.cmp.Ordering.{Ordering}

@@ -1,2 +1,6 @@
 //! Histories of databases and tables: definitions alone, which the machine and the jobs cite.
 #![tactic(auto)]
+
+mod laws;
+
+pub use laws::first_repeats_are_named;

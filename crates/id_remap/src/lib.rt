@@ -10,6 +10,3 @@ mod targets;
 pub use faults::RemapFault;
 pub use remapping::remap;
 pub use targets::Target;
-
-#[cfg(test)]
-mod tests;

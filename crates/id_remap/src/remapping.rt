@@ -13,7 +13,7 @@ use crate::tables::{
 use crate::targets::Target;
 use key_rewriter::IdMap;
 use mvcc_keys::{Hlc, Memory};
-use schema_catalog::Catalog;
+use schema_catalog::{Catalog, FIRST_TABLE_ID};
 use std::alloc::Global;
 use table_descriptors::Descriptor;
 
@@ -118,7 +118,7 @@ fn remap_fault(
     if let Some(fault) = taken_name(alloc, catalog, target, t, chosen)? {
         return Ok(Some(fault));
     }
-    let given = u64::from(catalog.next_id() - 100) + chosen.len() as u64;
+    let given = u64::from(catalog.next_id() - FIRST_TABLE_ID) + chosen.len() as u64;
     if given > u64::from(catalog.table_limit()) {
         return Ok(Some(RemapFault::TooManyTables));
     }
@@ -127,7 +127,7 @@ fn remap_fault(
 
 /// Refuses the chosen tables by the first test that holds; what passes fits into the catalog.
 #[tactic(auto, using(crate::proofs::Room::room))]
-fn judged(
+fn check_tables(
     alloc: Global,
     ids: &[u32],
     chosen: &[Descriptor],
@@ -149,7 +149,7 @@ fn judged(
 
 /// Old ids with the ids from a number on. A catalog's limit leaves room for these; where it didn't,
 /// the answer would be want of memory.
-fn numbered(alloc: Global, old: &[u32], first: u32) -> Result<IdMap, Memory>
+fn number_ids(alloc: Global, old: &[u32], first: u32) -> Result<IdMap, Memory>
     requires { are_ascending old.now ≡ true }
     ensures { IfOk result (λ ids. ids ≡ numbered first old.now) }
 {
@@ -179,8 +179,8 @@ pub fn remap(
     ensures fault { IfErr result (λ e. FaultIs e (remap_fault catalog.now chosen.now target.now skip at)) }
 {
     let old = ids_of(alloc, chosen)?;
-    judged(alloc, &old, chosen, catalog, target, skip, at)?;
-    let ids = numbered(alloc, &old, catalog.next_id())?;
+    check_tables(alloc, &old, chosen, catalog, target, skip, at)?;
+    let ids = number_ids(alloc, &old, catalog.next_id())?;
     let made = remapped_tables(alloc, chosen, &ids, target, at)?;
     Ok((ids, made))
 }

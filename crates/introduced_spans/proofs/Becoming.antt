@@ -10,6 +10,8 @@ use Rattle.range_tombstones.specs.declared.upto.Upto.TheVariants.{At}
 use Rattle.introduced_spans.specs.Publicity.{is_public, public_at, begins, dates_where, becomes_public_in}
 use Rattle.introduced_spans.specs.PlanLaws.{ascend_after}
 use Rattle.introduced_spans.proofs.Lists as lists
+use Rattle.list_laws.proofs.Bools as bools
+use Rattle.mvcc_keys.proofs.TimeOrder as time_order
 use Rattle.introduced_spans.proofs.Steps.{any_date}
 
 -- public at t by these descriptors, after others by which it is or isn't
@@ -45,17 +47,17 @@ says-in_force was (d ∷ ds) t = ap (λ (xs : List Schema). says was (find (is-d
 -- no descriptor is dated up to a time before all of them
 none-dated : (was : Bool) (low t : Time) (ds : List Schema) → ascend_after low ds ≡ true → time_le low t ≡ false → public-from was ds t ≡ was
 none-dated was low t [] a e = refl
-none-dated was low t (d ∷ ds) a e = let past : time_le d.modified t ≡ false = lists.lt-past low d.modified t (lists.and-left (time_lt low d.modified) (ascend_after d.modified ds) a) e in ap (λ (b : Bool). public-from (cond b (is_public d) was) ds t) past ∙ none-dated was d.modified t ds (lists.and-right (time_lt low d.modified) (ascend_after d.modified ds) a) past
+none-dated was low t (d ∷ ds) a e = let past : time_le d.modified t ≡ false = lists.lt-past low d.modified t (bools.and-left (time_lt low d.modified) (ascend_after d.modified ds) a) e in ap (λ (b : Bool). public-from (cond b (is_public d) was) ds t) past ∙ none-dated was d.modified t ds (bools.and-right (time_lt low d.modified) (ascend_after d.modified ds) a) past
 
 began : (s low t : Time) (ds : List Schema) → time_le s low ≡ true → ascend_after low ds ≡ true → public-from false ds t ≡ true → list_any (is_between s (At t)) (dates_where begins false ds) ≡ true
 began s low t [] p a e = cc e
-began s low t (d ∷ ds) p a e = any_date (is_between s (At t)) false d ds ∙ by (time_le d.modified t) refl (is_public d) refl (began s d.modified t ds (lists.lt-le s d.modified after) rest)
+began s low t (d ∷ ds) p a e = any_date (is_between s (At t)) false d ds ∙ by (time_le d.modified t) refl (is_public d) refl (began s d.modified t ds (time_order.lt-le s d.modified after) rest)
   where
     after : time_lt s d.modified ≡ true
-    after = lists.le-lt s low d.modified p (lists.and-left (time_lt low d.modified) (ascend_after d.modified ds) a)
+    after = time_order.le-lt-lt s low d.modified p (bools.and-left (time_lt low d.modified) (ascend_after d.modified ds) a)
 
     rest : ascend_after d.modified ds ≡ true
-    rest = lists.and-right (time_lt low d.modified) (ascend_after d.modified ds) a
+    rest = bools.and-right (time_lt low d.modified) (ascend_after d.modified ds) a
 
     at : (b : Bool) → time_le d.modified t ≡ b → public-from (cond b (is_public d) false) ds t ≡ true
     at b i = sym (ap (λ (b : Bool). public-from (cond b (is_public d) false) ds t) i) ∙ e
@@ -68,4 +70,4 @@ began s low t (d ∷ ds) p a e = any_date (is_between s (At t)) false d ds ∙ b
 -- where all dates are after s
 pub became : (s t : Time) (ds : List Schema) → ascend_after s ds ≡ true → public_at ds t ≡ true → becomes_public_in ds s t ≡ true
 unfolding becomes_public_in
-became s t ds a e = began s s t ds (lists.le-itself s) a (sym (says-in_force false ds t) ∙ e)
+became s t ds a e = began s s t ds (time_order.le-refl s) a (sym (says-in_force false ds t) ∙ e)

@@ -9,7 +9,8 @@ use Rattle.introduced_spans.specs.declared.plans.Span.{Span}
 use Rattle.introduced_spans.specs.Publicity.{public_at}
 use Rattle.introduced_spans.specs.Spans.{descriptors_of, scope_ids, is_introduced, introduced_ids, span_of, members_of, plan_by, protected_by, table_plan, layer_plan, plan_fault}
 use Rattle.introduced_spans.specs.PlanLaws.{ascend_after, whole_at, FullIsWhole}
-use Rattle.introduced_spans.proofs.Lists.{all-filter, all-true, map-same, none-found, le-not}
+use Rattle.introduced_spans.proofs.Lists.{all-filter, all-true, map-same, none-found}
+use Rattle.mvcc_keys.proofs.TimeOrder.{le-not_lt}
 use Rattle.introduced_spans.proofs.Becoming.{became}
 
 got : (tables : List (List Schema)) (i : ℕ) → AllByRecursion (λ ds. ascend_after zero_time ds ≡ true) tables → ascend_after zero_time (unwrap_or (slice_get tables i) []) ≡ true
@@ -56,4 +57,4 @@ full-is-whole tables scope end threshold h = record { plan = whole; allowed = al
     whole = ap (λ (ts : List TablePlan). record { floor = zero_time; tables = ts }) (map-same (table_plan tables (full end)) (whole_at end) members (each-public _ tables scope end (λ id e. whole-one tables end id (introduced tables end id h e))))
 
     allowed : ((id : ℕ) → time_le (threshold id) end ≡ true) → plan_fault tables scope zero_time end false threshold ≡ None
-    allowed upto = rw (none-found (λ id. not (is_introduced tables zero_time end id) && time_lt zero_time (threshold id)) members (each-public _ tables scope end (λ id e. ap (λ (b : Bool). not b && time_lt zero_time (threshold id)) (introduced tables end id h e))), none-found (λ id. time_lt end (threshold id)) (introduced_ids tables scope zero_time end) (all-true _ (λ id. le-not (threshold id) end (upto id)) (introduced_ids tables scope zero_time end))) refl
+    allowed upto = rw (none-found (λ id. not (is_introduced tables zero_time end id) && time_lt zero_time (threshold id)) members (each-public _ tables scope end (λ id e. ap (λ (b : Bool). not b && time_lt zero_time (threshold id)) (introduced tables end id h e))), none-found (λ id. time_lt end (threshold id)) (introduced_ids tables scope zero_time end) (all-true _ (λ id. le-not_lt end (threshold id) (upto id)) (introduced_ids tables scope zero_time end))) refl

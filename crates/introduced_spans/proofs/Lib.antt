@@ -3,3 +3,6 @@ pub mod Lists
 pub mod Becoming
 pub mod Standing
 pub mod Fulls
+pub mod Walks
+pub mod Untold
+pub mod Longer

@@ -1,10 +1,12 @@
 -- Lists that are filtered and mapped, and the order of times.
-use Rattle.std.proofs.Common.{◌≡◌, Bool, true, false, cond, ◌&&◌, refl, ap, ◌∙◌, ℕ, zero, suc, ◌+◌, ◌<◌, ◌≤◌, arith, List, [], ◌∷◌, map, filter, Some, None}
+use Rattle.std.proofs.Common.{◌≡◌, Bool, true, false, cond, refl, ap, ◌∙◌, ℕ, zero, suc, ◌+◌, ◌<◌, ◌≤◌, arith, List, [], ◌∷◌, map, filter, Some, None}
 use Rattle.std.specs.List.{AllByRecursion, find, range_with_len}
 use Rattle.std.proofs.lemmas.Bool.Decides.{nat_tests}
 use Rattle.mvcc_keys.specs.Times.{Time, time_lt, time_le}
 use Rattle.introduced_spans.specs.Publicity.{later}
 use Rattle.introduced_spans.specs.Spans.{greatest_threshold}
+use Rattle.list_laws.proofs.Members.{all-weaker}
+use Rattle.mvcc_keys.proofs.TimeOrder.{le-trans, le-refl, le-later, le-later_second, not_lt-le}
 
 -- ---- lists
 
@@ -29,10 +31,6 @@ module _ {X : Type 0} where
   pub all-both : (P Q : X → Type 0) (xs : List X) → AllByRecursion P xs → AllByRecursion Q xs → AllByRecursion (λ x. P x × Q x) xs
   all-both P Q [] h i = tt
   all-both P Q (x ∷ xs) h i = ((h.0, i.0), all-both P Q xs h.1 i.1)
-
-  pub all-each : (P Q : X → Type 0) → ((x : X) → P x → Q x) → (xs : List X) → AllByRecursion P xs → AllByRecursion Q xs
-  all-each P Q f [] h = tt
-  all-each P Q f (x ∷ xs) h = (f x h.0, all-each P Q f xs h.1)
 
   pub all-true : (Q : X → Type 0) → ((x : X) → Q x) → (xs : List X) → AllByRecursion Q xs
   all-true Q f [] = tt
@@ -60,44 +58,18 @@ module _ {X : Type 0} where
 
 pub range-all : (a n : ℕ) → AllByRecursion (λ i. (a ≤ i) × (i < a + n)) (range_with_len a n)
 range-all a zero = tt
-range-all a (suc n) = ((omega arith, omega arith), all-each (λ i. (a + 1 ≤ i) × (i < (a + 1) + n)) (λ i. (a ≤ i) × (i < a + suc n)) (λ i h. (omega (arith, h.0), omega (arith, h.1))) (range_with_len (a + 1) n) (range-all (a + 1) n))
+range-all a (suc n) = ((omega arith, omega arith), all-weaker (λ i. (a + 1 ≤ i) × (i < (a + 1) + n)) (λ i. (a ≤ i) × (i < a + suc n)) (λ i h. (omega (arith, h.0), omega (arith, h.1))) (range_with_len (a + 1) n) (range-all (a + 1) n))
 
 -- ---- times
-
-pub le-trans : (r s t : Time) → time_le r s ≡ true → time_le s t ≡ true → time_le r t ≡ true
-le-trans r s t p q = grind (arith, nat_tests)
-
-pub le-itself : (t : Time) → time_le t t ≡ true
-le-itself t = grind (arith, nat_tests)
-
-pub lt-le : (s t : Time) → time_lt s t ≡ true → time_le s t ≡ true
-lt-le s t p = grind (arith, nat_tests)
-
-pub not-lt : (s t : Time) → time_lt s t ≡ false → time_le t s ≡ true
-not-lt s t p = grind (arith, nat_tests)
-
-pub le-not : (s t : Time) → time_le s t ≡ true → time_lt t s ≡ false
-le-not s t p = grind (arith, nat_tests)
-
-pub le-lt : (r s t : Time) → time_le r s ≡ true → time_lt s t ≡ true → time_lt r t ≡ true
-le-lt r s t p q = grind (arith, nat_tests)
 
 pub lt-past : (r s t : Time) → time_lt r s ≡ true → time_le r t ≡ false → time_le s t ≡ false
 lt-past r s t p q = grind (arith, nat_tests)
 
 pub later-left : (s t : Time) → time_le s (later s t) ≡ true
-later-left s t = by (time_lt s t) refl
-  where
-    by : (b : Bool) → time_lt s t ≡ b → time_le s (cond b t s) ≡ true
-    by true e = lt-le s t e
-    by false e = le-itself s
+later-left s t = le-later s t
 
 pub later-right : (s t : Time) → time_le t (later s t) ≡ true
-later-right s t = by (time_lt s t) refl
-  where
-    by : (b : Bool) → time_lt s t ≡ b → time_le t (cond b t s) ≡ true
-    by true e = le-itself t
-    by false e = not-lt s t e
+later-right s t = le-later_second s t
 
 pub later-upto : (s t e : Time) → time_le s e ≡ true → time_le t e ≡ true → time_le (later s t) e ≡ true
 later-upto s t e p q = by (time_lt s t)
@@ -109,7 +81,7 @@ later-upto s t e p q = by (time_lt s t)
 -- ---- the greatest threshold
 
 pub greatest-from : (threshold : ℕ → Time) (start : Time) (ids : List ℕ) → time_le start (greatest_threshold threshold start ids) ≡ true
-greatest-from threshold start [] = le-itself start
+greatest-from threshold start [] = le-refl start
 greatest-from threshold start (id ∷ ids) = le-trans start (later start (threshold id)) (greatest_threshold threshold (later start (threshold id)) ids) (later-left start (threshold id)) (greatest-from threshold (later start (threshold id)) ids)
 
 pub greatest-all : (threshold : ℕ → Time) (start : Time) (ids : List ℕ) → AllByRecursion (λ id. time_le (threshold id) (greatest_threshold threshold start ids) ≡ true) ids
@@ -118,12 +90,4 @@ greatest-all threshold start (id ∷ ids) = (le-trans (threshold id) (later star
 
 pub greatest-upto : (threshold : ℕ → Time) (start end : Time) (ids : List ℕ) → time_le start end ≡ true → AllByRecursion (λ id. time_lt end (threshold id) ≡ false) ids → time_le (greatest_threshold threshold start ids) end ≡ true
 greatest-upto threshold start end [] p h = p
-greatest-upto threshold start end (id ∷ ids) p h = greatest-upto threshold (later start (threshold id)) end ids (later-upto start (threshold id) end p (not-lt end (threshold id) h.0)) h.1
-
-pub and-left : (a b : Bool) → (a && b) ≡ true → a ≡ true
-and-left true b e = refl
-and-left false b e = cc e
-
-pub and-right : (a b : Bool) → (a && b) ≡ true → b ≡ true
-and-right true b e = e
-and-right false b e = cc e
+greatest-upto threshold start end (id ∷ ids) p h = greatest-upto threshold (later start (threshold id)) end ids (later-upto start (threshold id) end p (not_lt-le end (threshold id) h.0)) h.1

@@ -13,7 +13,9 @@ use Rattle.introduced_spans.specs.declared.plans.PlanFault.{PlanFault}
 use Rattle.introduced_spans.specs.declared.plans.PlanFault.TheVariants.{StartCollected, Collected}
 use Rattle.introduced_spans.specs.Spans.{table_ids, descriptors_of, is_in_scope, scope_ids, is_introduced, introduced_ids, floor_of, span_of, is_member, members_of, plan_by, protected_by, table_plan, plan_over, layer_plan, first_fault, fault_over, plan_fault}
 use Rattle.introduced_spans.specs.PlanLaws.{IsListed, IsKept, PlanStands}
-use Rattle.introduced_spans.proofs.Lists.{all-filter, all-unfilter, all-both, all-each, all-true, all-map, find-none, range-all, le-itself, not-lt, greatest-from, greatest-all, greatest-upto}
+use Rattle.list_laws.proofs.Members.{all-weaker}
+use Rattle.introduced_spans.proofs.Lists.{all-filter, all-unfilter, all-both, all-true, all-map, find-none, range-all, greatest-from, greatest-all, greatest-upto}
+use Rattle.mvcc_keys.proofs.TimeOrder.{le-refl, not_lt-le}
 
 -- ---- ids
 
@@ -46,10 +48,10 @@ clear-tests tables scope s threshold e = let found = clear (λ id. StartCollecte
 
 floor-from : (tables : List (List Schema)) (scope : Scope) (start end : Time) (history : Bool) (threshold : ℕ → Time) → time_le start (floor_of tables scope start end history threshold) ≡ true
 floor-from tables scope start end true threshold = greatest-from threshold start (introduced_ids tables scope start end)
-floor-from tables scope start end false threshold = le-itself start
+floor-from tables scope start end false threshold = le-refl start
 
 floor-all : (tables : List (List Schema)) (scope : Scope) (start end : Time) (history : Bool) (threshold : ℕ → Time) → AllByRecursion (λ id. history ≡ true → time_le (threshold id) (floor_of tables scope start end history threshold) ≡ true) (introduced_ids tables scope start end)
-floor-all tables scope start end true threshold = all-each _ _ (λ id h _. h) (introduced_ids tables scope start end) (greatest-all threshold start (introduced_ids tables scope start end))
+floor-all tables scope start end true threshold = all-weaker _ _ (λ id h _. h) (introduced_ids tables scope start end) (greatest-all threshold start (introduced_ids tables scope start end))
 floor-all tables scope start end false threshold = all-true _ (λ id e. cc e) (introduced_ids tables scope start end)
 
 floor-upto : (tables : List (List Schema)) (scope : Scope) (start end : Time) (history : Bool) (threshold : ℕ → Time) → time_le start end ≡ true → AllByRecursion (λ id. time_lt end (threshold id) ≡ false) (introduced_ids tables scope start end) → time_le (floor_of tables scope start end history threshold) end ≡ true
@@ -67,9 +69,9 @@ kept-one tables s threshold id = by s.history (is_introduced tables s.start s.en
 
     by : (history introduced : Bool) → (introduced ≡ true → time_lt s.end (threshold id) ≡ false) → (introduced ≡ true → history ≡ true → time_le (threshold id) s.floor ≡ true) → (not introduced && time_lt s.start (threshold id)) ≡ false → IsKept threshold (plan history introduced)
     by true true h f g = record { export = f refl refl; protected = f refl refl }
-    by true false h f g = record { export = not-lt s.start (threshold id) g; protected = not-lt s.start (threshold id) g }
-    by false true h f g = record { export = not-lt s.end (threshold id) (h refl); protected = not-lt s.end (threshold id) (h refl) }
-    by false false h f g = record { export = not-lt s.start (threshold id) g; protected = not-lt s.start (threshold id) g }
+    by true false h f g = record { export = not_lt-le s.start (threshold id) g; protected = not_lt-le s.start (threshold id) g }
+    by false true h f g = record { export = not_lt-le s.end (threshold id) (h refl); protected = not_lt-le s.end (threshold id) (h refl) }
+    by false false h f g = record { export = not_lt-le s.start (threshold id) g; protected = not_lt-le s.start (threshold id) g }
 
 kept : (tables : List (List Schema)) (scope : Scope) (s : Span) (threshold : ℕ → Time) → AllByRecursion (λ id. s.history ≡ true → time_le (threshold id) s.floor ≡ true) (introduced_ids tables scope s.start s.end) → fault_over tables scope s threshold ≡ None → AllByRecursion (IsKept threshold) (plan_over tables scope s).tables
 unfolding members_of introduced_ids

@@ -1,5 +1,5 @@
 -- When a table is public, by its dated descriptors.
-use Rattle.std.specs.Prelude.{ℕ, ◌+◌, ◌-◌, ◌^◌, Bool, true, false, not, ◌&&◌, ◌||◌, nat_lt, List, [], ◌∷◌, map, filter, fold, Option, Some, None, option_map, unwrap_or, if◌then◌else◌}
+use Rattle.std.specs.Prelude.{◌≡◌, ℕ, ◌+◌, ◌-◌, ◌^◌, Bool, true, false, not, ◌&&◌, ◌||◌, nat_lt, List, [], ◌∷◌, map, filter, fold, Option, Some, None, option_map, unwrap_or, if◌then◌else◌}
 use Rattle.std.specs.List.{list_any}
 use Rattle.mvcc_keys.specs.Times.{Time, time, time_lt, time_le}
 use Rattle.table_descriptors.specs.declared.columns.State.{State}
@@ -85,3 +85,10 @@ last_end ds e = latest (filter (λ t. time_le t e) (dates_where ends false ds))
 -- up to the end where the table is public at it, and otherwise before the moment at which it last stopped being public
 unfoldable pub upto_of : List Schema → Time → Upto
 upto_of ds e = if public_at ds e then At e else unwrap_or (option_map Before (last_end ds e)) (At e)
+
+-- ---- what no layer tells of
+
+-- At no time from u on, up to t, is the table with these descriptors public. No layer that ends by t tells of a fact dated u, since u is
+-- after t, or the table isn't public from u on.
+abbrev pub IsUntold : List Schema → Time → Time → Type 0
+IsUntold ds t u = (x : Time) → time_le u x ≡ true → time_le x t ≡ true → public_at ds x ≡ false

@@ -1,5 +1,5 @@
 -- Which tables a layer has, from which floor and by which plan, or why there is no layer.
-use Rattle.std.specs.Prelude.{◌≡◌, ℕ, ◌-◌, Bool, true, false, not, ◌&&◌, ◌||◌, ◌==◌, nat_lt, List, [], ◌∷◌, map, filter, fold, length, slice_get, Option, Some, None, option_map, unwrap_or, if◌then◌else◌}
+use Rattle.std.specs.Prelude.{◌≡◌, ℕ, ◌-◌, Bool, true, false, not, ◌&&◌, ◌||◌, ◌==◌, nat_lt, List, [], ◌∷◌, map, filter, fold, length, slice_get, Option, Some, None, option_map, unwrap_or, if◌then◌else◌, ◌++◌, option_to_list}
 use Rattle.std.specs.List.{find, range_with_len}
 use Rattle.std.specs.Str.{bytes_eq}
 use Rattle.mvcc_keys.specs.Times.{Time, zero_time, time_lt}
@@ -16,6 +16,8 @@ use Rattle.introduced_spans.specs.declared.plans.Span.{Span}
 use Rattle.introduced_spans.specs.declared.plans.PlanFault.{PlanFault}
 use Rattle.introduced_spans.specs.declared.plans.PlanFault.TheVariants.{StartCollected, Collected, Memory}
 use Rattle.introduced_spans.specs.Publicity.{public_at, becomes_public_in, is_public_in, later, upto_of}
+use Rattle.history_model.specs.Histories.{in_force}
+use Rattle.range_tombstones.specs.Intervals.{is_between}
 
 -- ---- the scope's tables
 
@@ -141,3 +143,11 @@ plan_fault tables scope start end history threshold = fault_over tables scope (s
 abbrev pub FaultIs : PlanFault → Option PlanFault → Type 0
 FaultIs Memory fault = Unit {0}
 FaultIs e fault = fault ≡ Some e
+
+-- ---- descriptors
+
+-- the descriptors that a layer lists of a member: with history the one in force at the floor, where there is one, and those dated after it
+-- up to the end; without history the one in force at the end
+abbrev pub layer_descriptors : Bool → Time → Time → List Schema → List Schema
+layer_descriptors true floor end ds = option_to_list (in_force ds floor) ++ filter (λ (d : Schema). is_between floor (At end) d.modified) ds
+layer_descriptors false floor end ds = option_to_list (in_force ds end)

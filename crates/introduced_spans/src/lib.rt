@@ -10,6 +10,3 @@ mod tables;
 pub use laws::{full_plans_are_whole, plans_stand};
 pub use planning::plan_layer;
 pub use plans::{LayerPlan, PlanFault, Span, TablePlan, Threshold};
-
-#[cfg(test)]
-mod tests;

@@ -94,7 +94,7 @@ fn fault_of(
 }
 
 /// The plan of a layer with these members, unless a test refuses it.
-fn planned(
+fn plan_members(
     alloc: Global,
     catalog: &Catalog,
     span: &Span,
@@ -143,5 +143,5 @@ pub fn plan_layer(
         history,
     };
     let members = members_of(alloc, catalog, &ids, &span)?;
-    planned(alloc, catalog, &span, thresholds, &members, &introduced)
+    plan_members(alloc, catalog, &span, thresholds, &members, &introduced)
 }

@@ -5,7 +5,7 @@ ghost use Rattle.range_tombstones.specs.Intervals.{is_between};
 ghost use Rattle.range_tombstones.specs.declared.upto.Upto.TheVariants.{At};
 ghost use Rattle.introduced_spans.specs.Publicity.{is_public, public_at, begins, ends, becomes_public_in, time_after, is_public_after, is_public_in, later, later_or, last_end, upto_of};
 
-use mvcc_keys::Hlc;
+use mvcc_keys::{Hlc, LOGICAL_MAX};
 use range_tombstones::Upto;
 use table_descriptors::{Descriptor, State};
 
@@ -51,7 +51,7 @@ pub fn becomes_public_in(descriptors: &[Descriptor], start: Hlc, end: Hlc) -> bo
 fn time_after(s: Hlc) -> Option<Hlc>
     ensures { result ≡ time_after s }
 {
-    if s.logical() < 2147483647 {
+    if s.logical() < LOGICAL_MAX {
         return s.next();
     }
     if s.wall() < u64::MAX {

@@ -7,7 +7,7 @@ use crate::plans::{Span, TablePlan, Threshold};
 use crate::publicity::{becomes_public_in, is_public_in, public_at, upto_of};
 use mvcc_keys::{Hlc, Memory};
 use range_tombstones::Upto;
-use schema_catalog::Catalog;
+use schema_catalog::{Catalog, FIRST_TABLE_ID};
 use span_export::Plan;
 use std::alloc::Global;
 use table_descriptors::{Descriptor, Scope};
@@ -29,7 +29,7 @@ fn is_in_scope(catalog: &Catalog, scope: &Scope, id: u32) -> bool
 pub fn scope_ids(alloc: Global, catalog: &Catalog, scope: &Scope) -> Result<Vec<u32>, Memory>
     ensures { IfOk result (λ ids. ids.items ≡ scope_ids catalog.now.tables scope.now) }
 {
-    let ids = 100..catalog.next_id();
+    let ids = FIRST_TABLE_ID..catalog.next_id();
     Ok(
         ids.filter(|id| is_in_scope(catalog, scope, *id))
             .collect(alloc)?,

@@ -1,31 +1,24 @@
 -- Lists of elements that tell the names of layers: mapped, and what is in them.
-use Rattle.std.proofs.Common.{◌≡◌, ◌∙◌, ℕ, Bool, true, false, cond, refl, ap, List, [], ◌∷◌, map, filter}
+use Rattle.std.proofs.Common.{◌≡◌, ◌∙◌, ℕ, Bool, true, refl, ap, List, map, filter}
 use Rattle.std.proofs.lemmas.Simd.{map-map}
 use Rattle.mvcc_keys.specs.Times.{Time}
-use Rattle.fact_model.specs.Facts.{Has}
+use Rattle.list_laws.specs.Members.{Has}
 use Rattle.fact_model.specs.Ordered.{ordered}
-use Rattle.fact_model.proofs.Members as members
+use Rattle.list_laws.proofs.Members as members
 use Rattle.fact_model.proofs.Orders as orders
 use Rattle.layer_model.specs.declared.names.LayerName.{LayerName}
 use Rattle.layer_book.specs.Laws.{IsTold}
 use Rattle.layer_book.specs.Subdirectories.{greatest, is_in, is_of, last_full_of, layers_of, place_cmp, subdirectories_of, subdirectory, subdirectory_cmp}
-
-filter-map : {X Y : Type 0} (f : X → Y) (p : Y → Bool) (xs : List X) → filter p (map f xs) ≡ map f (filter (λ x. p (f x)) xs)
-filter-map f p [] = refl
-filter-map {X} {Y} f p (x ∷ xs) = by (p (f x)) (filter-map f p xs)
-  where
-    by : (b : Bool) → filter p (map f xs) ≡ map f (filter (λ x. p (f x)) xs) → cond b (f x ∷ filter p (map f xs)) (filter p (map f xs)) ≡ map f (cond b (x ∷ filter (λ x. p (f x)) xs) (filter (λ x. p (f x)) xs))
-    by true more = ap (λ (ys : List Y). f x ∷ ys) more
-    by false more = more
+use Rattle.list_laws.proofs.Filters.{filter-map}
 
 module _ {X Y : Type 0} (f : X → Y) (name : Y → LayerName) (collection : List ℕ) where
   mapped : {Z : Type 0} (g : Y → Z) (p : Y → Bool) (xs : List X) → map g (filter p (map f xs)) ≡ map (λ x. g (f x)) (filter (λ x. p (f x)) xs)
-  mapped g p xs = ap (map g) (filter-map f p xs) ∙ map-map g f (filter (λ x. p (f x)) xs)
+  mapped g p xs = ap (map g) (filter-map p f xs) ∙ map-map g f (filter (λ x. p (f x)) xs)
 
   pub layers_map : (cluster : List ℕ) (full : Time) (xs : List X) → layers_of name collection cluster full (map f xs) ≡ map f (layers_of (λ x. name (f x)) collection cluster full xs)
   unfolding layers_of
   layers_map cluster full xs =
-      ap (ordered (place_cmp name)) (filter-map f (λ y. is_in collection cluster full (name y)) xs)
+      ap (ordered (place_cmp name)) (filter-map (λ y. is_in collection cluster full (name y)) f xs)
       ∙ orders.ordered-map (place_cmp (λ x. name (f x))) (place_cmp name) f (λ x. Unit {0}) (λ a b p q. refl) (filter (λ x. is_in collection cluster full (name (f x))) xs) (λ x h. tt)
 
   pub subdirectories_map : (xs : List X) → subdirectories_of name collection (map f xs) ≡ subdirectories_of (λ x. name (f x)) collection xs

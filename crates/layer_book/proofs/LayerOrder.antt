@@ -10,7 +10,7 @@ use Rattle.std.proofs.lemmas.List.Sorted.{IsPermutation-refl, IsPermutation-cons
 use Rattle.mvcc_keys.specs.Times.{Time}
 use Rattle.mvcc_keys.specs.Codes.{time_cmp}
 use Rattle.fact_model.specs.Ordered.{by_order, insert_by, ordered}
-use Rattle.fact_model.proofs.Members as members
+use Rattle.list_laws.proofs.Members as members
 use Rattle.fact_model.proofs.Orders as orders
 use Rattle.layer_model.specs.declared.names.LayerName.{LayerName}
 use Rattle.layer_book.specs.Subdirectories.{first_of_ties, layer_cmp, place_cmp}

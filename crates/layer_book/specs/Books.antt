@@ -2,7 +2,8 @@
 use Rattle.std.specs.Prelude.{ℕ, Bool, not, ◌&&◌, ◌==◌, List, [], ◌∷◌, ◌++◌, filter}
 use Rattle.layer_manifest.specs.declared.manifest.Manifest.{Manifest}
 use Rattle.layer_model.specs.declared.names.LayerName.{LayerName}
-use Rattle.layer_book.specs.Subdirectories.{is_in, time_eq}
+use Rattle.mvcc_keys.specs.Times.{time_eq}
+use Rattle.layer_book.specs.Subdirectories.{is_in}
 
 -- the cluster that keeps the book, and its own layers in the order in which they were added
 pub record Book : Type 0 where

@@ -3,7 +3,7 @@ use Rattle.std.specs.Prelude.{◌≡◌, ◌⊎◌, ℕ, true, List, map, filter
 use Rattle.std.specs.List.Sorted.{IsPermutation, IsSortedBy, IsStableBy, IsStrictlySortedBy}
 use Rattle.std.specs.Ordering.{is_lt}
 use Rattle.mvcc_keys.specs.Times.{Time, zero_time, time_le}
-use Rattle.fact_model.specs.Facts.{Has}
+use Rattle.list_laws.specs.Members.{Has}
 use Rattle.layer_model.specs.declared.names.LayerName.{LayerName}
 use Rattle.layer_book.specs.Subdirectories.{is_of, is_in, layer_cmp, layers_of, subdirectory, subdirectory_cmp, subdirectories_of, last_full_of}
 

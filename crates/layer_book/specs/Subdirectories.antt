@@ -6,13 +6,10 @@ use Rattle.std.specs.declared.cmp.Ordering.{Ordering}
 use Rattle.std.specs.declared.cmp.Ordering.TheVariants.{Less, Equal, Greater}
 use Rattle.std.specs.Ordering.{nat_cmp, ordering_then}
 use Rattle.std.specs.Cmp.Lexicographic.{slice_cmp}
-use Rattle.mvcc_keys.specs.Times.{Time, zero_time, time_lt}
+use Rattle.mvcc_keys.specs.Times.{Time, zero_time, time_lt, time_eq}
 use Rattle.mvcc_keys.specs.Codes.{time_cmp}
 use Rattle.fact_model.specs.Ordered.{ordered}
 use Rattle.layer_model.specs.declared.names.LayerName.{LayerName}
-
-abbrev pub time_eq : Time → Time → Bool
-time_eq s t = (s.wall == t.wall) && (s.logical == t.logical)
 
 -- the layer is in the collection
 abbrev pub is_of : List ℕ → LayerName → Bool

@@ -9,6 +9,3 @@ mod order;
 
 pub use book::LayerBook;
 pub use laws::{last_full_is_greatest, layers_are_exact, maps_carry, subdirectories_are_exact};
-
-#[cfg(test)]
-mod tests;

@@ -9,7 +9,7 @@ use Rattle.table_descriptors.specs.Descriptors.{Schema, repeats_id}
 use Rattle.history_model.specs.Histories.{in_force}
 use Rattle.schema_catalog.specs.Catalogs.{Schemas, history_of, with_descriptor, without_last, dropped, drop_one, IsTableId, IsChangeable, AreChangeable}
 use Rattle.schema_catalog.proofs.Places.{table_there}
-use Rattle.schema_catalog.proofs.References.{or-false}
+use Rattle.list_laws.proofs.Bools.{or-neither}
 
 abbrev History : Type 0
 History = List Schema
@@ -38,7 +38,7 @@ other-place (x ∷ xs) zero (suc q) v n = refl
 other-place (x ∷ xs) (suc p) zero v n = refl
 other-place (x ∷ xs) (suc p) (suc q) v n = other-place xs p q v (λ e. n (ap suc e))
 
-other-history : (s : Schemas) (id other : ℕ) (d : Schema) → 100 ≤ id → id ≢ other → history_of (with_descriptor s (id - 100) d) other ≡ history_of s other
+pub other-history : (s : Schemas) (id other : ℕ) (d : Schema) → 100 ≤ id → id ≢ other → history_of (with_descriptor s (id - 100) d) other ≡ history_of s other
 other-history s id other d low n = by (nat_lt other 100) refl
   where
     v : History
@@ -51,7 +51,7 @@ other-history s id other d low n = by (nat_lt other 100) refl
         let apart : (id - 100) ≢ (other - 100) = λ q. n (omega (arith, q, low, high)) in
         rw (e) (ap (λ (r : Option History). unwrap_or r []) (other-place s.tables (id - 100) (other - 100) (unwrap_or (slice_get s.tables (id - 100)) [] ++ d ∷ []) apart))
 
-dropped-one : (s : Schemas) (t : Time) (id : ℕ) (d : Schema) → in_force (history_of s id) t ≡ Some d → drop_one t s id ≡ with_descriptor s (id - 100) (dropped d t)
+pub dropped-one : (s : Schemas) (t : Time) (id : ℕ) (d : Schema) → in_force (history_of s id) t ≡ Some d → drop_one t s id ≡ with_descriptor s (id - 100) (dropped d t)
 dropped-one s t id d e = ap (λ r. unwrap_or (option_map (λ (d : Schema). with_descriptor s (id - 100) (dropped d t)) r) s) e
 
 pub drop_made : (s n : Schemas) (t : Time) (id : ℕ) (d e : Schema) → in_force (history_of s id) t ≡ Some d → e ≡ dropped d t → n ≡ with_descriptor s (id - 100) e → n ≡ drop_one t s id
@@ -59,8 +59,8 @@ drop_made s n t id d e found is made = made ∙ (ap (with_descriptor s (id - 100
 
 pub drop_others : (s n : Schemas) (t : Time) (id : ℕ) (d e : Schema) → in_force (history_of s id) t ≡ Some d → n ≡ with_descriptor s (id - 100) e → (ids : List ℕ) → AreChangeable s t (id ∷ ids) → AreChangeable n t ids
 drop_others s n t id d e found made ids all = subst (λ (x : Schemas). AreChangeable x t ids) (sym made) (record {
-  each = go ids (or-false (list_any (λ y. y == id) ids) (repeats_id ids) all.differ).0 all.each.1;
-  differ = (or-false (list_any (λ y. y == id) ids) (repeats_id ids) all.differ).1;
+  each = go ids (or-neither (list_any (λ y. y == id) ids) (repeats_id ids) all.differ).0 all.each.1;
+  differ = (or-neither (list_any (λ y. y == id) ids) (repeats_id ids) all.differ).1;
 })
   where
     there : IsTableId s id
@@ -71,7 +71,7 @@ drop_others s n t id d e found made ids all = subst (λ (x : Schemas). AreChange
 
     go : (is : List ℕ) → list_any (λ y. y == id) is ≡ false → AllByRecursion (IsChangeable s t) is → AllByRecursion (IsChangeable (with_descriptor s (id - 100) e) t) is
     go [] apart all = tt
-    go (i ∷ is) apart all = let p = or-false (i == id) (list_any (λ y. y == id) is) apart in (one i p.0 all.0, go is p.1 all.1)
+    go (i ∷ is) apart all = let p = or-neither (i == id) (list_any (λ y. y == id) is) apart in (one i p.0 all.0, go is p.1 all.1)
 
 pub taken_back : (o n s : Schemas) (t : Time) (id : ℕ) → n ≡ without_last o (id - 100) → o ≡ drop_one t s id → IsChangeable s t id → n ≡ s
 taken_back o n s t id popped made c =

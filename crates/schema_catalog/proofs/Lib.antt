@@ -1,3 +1,4 @@
 pub mod References
 pub mod Places
 pub mod Drops
+pub mod Dropping

@@ -14,6 +14,8 @@ use Rattle.history_model.specs.Histories.{in_force, is_dropped, has_name, is_nam
 use Rattle.schema_catalog.specs.declared.faults.CatalogFault.{CatalogFault}
 use Rattle.schema_catalog.specs.declared.faults.CatalogFault.TheVariants.{NoSuchDatabase, NameTaken, TooManyTables}
 use Rattle.schema_catalog.specs.Catalogs.{Schemas, id_at, has_database, first_fault, fault_if, schema_fault, is_same_name, missing_fault, offline_fault, table_fault, reference_ids}
+use Rattle.list_laws.proofs.Options.{some-is}
+use Rattle.list_laws.proofs.Bools.{or-neither}
 
 abbrev Name : Type 0
 Name = List ℕ × List ℕ
@@ -25,9 +27,6 @@ named-by n (Some d) e =
     let q = both_true (bytes_eq d.database n.0) (bytes_eq d.name n.1) p.0 in
     (d, refl, q.0, q.1)
 
-some_is : {X : Type 0} (x y : X) → Some x ≡ Some y → x ≡ y
-some_is x y e = cc e
-
 same-text : (a b c : List ℕ) → bytes_eq a b ≡ true → bytes_eq a c ≡ true → bytes_eq b c ≡ true
 same-text a b c p q = (bytes_eq-Decides b c).1 (sym ((bytes_eq-Decides a b).0 p) ∙ (bytes_eq-Decides a c).0 q)
 
@@ -36,27 +35,23 @@ same-name : (tables : List (List Schema)) (t : Time) (m n : Name) (i : ℕ) → 
 same-name tables t m n i p q =
     let a = named-by m (in_force (get_or tables i []) t) (position-Some (is_named m t) tables i [] p).1 in
     let b = named-by n (in_force (get_or tables i []) t) (position-Some (is_named n t) tables i [] q).1 in
-    let d : a.0 ≡ b.0 = some_is a.0 b.0 (sym a.1 ∙ b.1) in
+    let d : a.0 ≡ b.0 = some-is a.0 b.0 (sym a.1 ∙ b.1) in
     ap₂ (λ (x y : Bool). x && y)
     (same-text b.0.database m.0 n.0 (ap (λ (s : Schema). bytes_eq s.database m.0) (sym d) ∙ a.2) b.2)
     (same-text b.0.name m.1 n.1 (ap (λ (s : Schema). bytes_eq s.name m.1) (sym d) ∙ a.3) b.3)
-
-pub or-false : (a b : Bool) → (a || b) ≡ false → (a ≡ false) × (b ≡ false)
-or-false false b e = (refl, e)
-or-false true b e = cc e
 
 module _ (s : Schemas) (t : Time) where
   -- the table of a name is none of those of other names
   other-ids : (n : Name) (i : ℕ) (ms : List Name) → place_named s.tables n t ≡ Some i → list_any (λ m. is_same_name m n) ms ≡ false → list_any (λ y. y == id_at i) (reference_ids s t ms) ≡ false
   other-ids n i [] p none = refl
-  other-ids n i (m ∷ ms) p none = by (place_named s.tables m t) refl (other-ids n i ms p (or-false (is_same_name m n) (list_any (λ m. is_same_name m n) ms) none).1)
+  other-ids n i (m ∷ ms) p none = by (place_named s.tables m t) refl (other-ids n i ms p (or-neither (is_same_name m n) (list_any (λ m. is_same_name m n) ms) none).1)
     where
       apart : (j : ℕ) → place_named s.tables m t ≡ Some j → (b : Bool) → id_at j == id_at i ≡ b → b ≡ false
       apart j e false q = refl
       apart j e true q =
           let ids : id_at j ≡ id_at i = eqb-true (id_at j) (id_at i) q in
           let same : j ≡ i = omega (arith, ids) in
-          let no : true ≡ false = sym (same-name s.tables t m n i (e ∙ ap (λ (k : ℕ). Some k) same) p) ∙ (or-false (is_same_name m n) (list_any (λ m. is_same_name m n) ms) none).0 in
+          let no : true ≡ false = sym (same-name s.tables t m n i (e ∙ ap (λ (k : ℕ). Some k) same) p) ∙ (or-neither (is_same_name m n) (list_any (λ m. is_same_name m n) ms) none).0 in
           cc no
 
       by : (r : Option ℕ) → place_named s.tables m t ≡ r → list_any (λ y. y == id_at i) (reference_ids s t ms) ≡ false → list_any (λ y. y == id_at i) (reference_ids s t (m ∷ ms)) ≡ false
@@ -67,7 +62,7 @@ module _ (s : Schemas) (t : Time) where
   differ : (ms : List Name) → repeats is_same_name ms ≡ false → repeats_id (reference_ids s t ms) ≡ false
   differ [] none = refl
   differ (n ∷ ms) none =
-      let p = or-false (list_any (λ y. is_same_name y n) ms) (repeats is_same_name ms) none in
+      let p = or-neither (list_any (λ y. is_same_name y n) ms) (repeats is_same_name ms) none in
       by (place_named s.tables n t) refl p.0 (differ ms p.1)
     where
       by : (r : Option ℕ) → place_named s.tables n t ≡ r → list_any (λ y. is_same_name y n) ms ≡ false → repeats_id (reference_ids s t ms) ≡ false → repeats_id (reference_ids s t (n ∷ ms)) ≡ false

@@ -1,2 +1,3 @@
 pub mod Catalogs
 pub mod CatalogView
+pub mod DropLaws

@@ -16,8 +16,11 @@ use std::alloc::Global;
 use std::marker::Model;
 use table_descriptors::{Change, Descriptor, Name, SchemaFault, State, broken_rule};
 
-/// The names of databases and the dated descriptors of tables. Table ids ascend from 100 and are
-/// never used again.
+/// The id of the first table.
+pub const FIRST_TABLE_ID: u32 = 100;
+
+/// The names of databases and the dated descriptors of tables. Table ids ascend from
+/// `FIRST_TABLE_ID` and are never used again.
 #[derive(Drop)]
 pub struct Catalog {
     alloc: Global,
@@ -117,7 +120,7 @@ impl Catalog {
     pub fn next_id(&self) -> u32
         ensures { result ≡ next_id self.now }
     {
-        100 + self.tables.len() as u32
+        FIRST_TABLE_ID + self.tables.len() as u32
     }
 
     pub fn table_limit(&self) -> u32
@@ -155,10 +158,10 @@ impl Catalog {
     pub fn history(&self, id: u32) -> &[Descriptor]
         ensures { result.now ≡ history_of self.now id }
     {
-        if id < 100 {
+        if id < FIRST_TABLE_ID {
             return &[];
         }
-        match self.tables.get((id - 100) as usize) {
+        match self.tables.get((id - FIRST_TABLE_ID) as usize) {
             Some(table) => table.as_slice(),
             None => &[],
         }
@@ -181,7 +184,7 @@ impl Catalog {
     }
 
     /// The descriptor in force at t of the table to which a name belongs at t.
-    fn named_descriptor(&self, database: &Name, name: &Name, t: Hlc) -> Option<&Descriptor>
+    pub fn named_descriptor(&self, database: &Name, name: &Name, t: Hlc) -> Option<&Descriptor>
         ensures { option_copied result ≡ option_and_then (λ ds. in_force ds t) (option_and_then (slice_get self.now.tables) (place_named self.now.tables (database.now, name.now) t)) }
     {
         let Some(place) = self.place_named(database, name, t) else {
@@ -198,7 +201,7 @@ impl Catalog {
         ensures { result ≡ id_named self.now (database.now, name.now) t }
     {
         match self.place_named(database, name, t) {
-            Some(place) => Some(100 + place as u32),
+            Some(place) => Some(FIRST_TABLE_ID + place as u32),
             None => None,
         }
     }
@@ -210,8 +213,8 @@ impl Catalog {
         self.place_named(&name.0, &name.1, t).is_none()
     }
 
-    /// The first of the names that belongs to no table at t.
-    fn missing(&self, names: &[(Name, Name)], t: Hlc) -> Result<Option<CatalogFault>, Memory>
+    /// The fault of the first of the names that belongs to no table at t.
+    pub fn missing(&self, names: &[(Name, Name)], t: Hlc) -> Result<Option<CatalogFault>, Memory>
         ensures { IfOk result (λ r. r ≡ missing_fault self.now t names.now) }
     {
         match names.iter().find(|name| self.is_missing(*name, t)) {
@@ -232,8 +235,8 @@ impl Catalog {
         }
     }
 
-    /// The first of the names whose table is Offline at t.
-    fn offline(&self, names: &[(Name, Name)], t: Hlc) -> Result<Option<CatalogFault>, Memory>
+    /// The fault of the first of the names whose table is Offline at t.
+    pub fn offline(&self, names: &[(Name, Name)], t: Hlc) -> Result<Option<CatalogFault>, Memory>
         ensures { IfOk result (λ r. r ≡ offline_fault self.now t names.now) }
     {
         match names.iter().find(|name| self.is_offline_at(*name, t)) {
@@ -293,7 +296,7 @@ impl Catalog {
 
     /// Refuses a new table by the first test that fails; what passes is a table that can be made.
     #[tactic(auto, using(crate::proofs::References::table_fits))]
-    fn judged(
+    fn check_table(
         &self,
         database: &Name,
         name: &Name,
@@ -338,12 +341,13 @@ impl Catalog {
         ensures fault { IfErr result (λ e. FaultIs e (table_fault self.old at (database.now, name.now) columns.now key.now references.now)) }
         ensures kept { OnErr result (self.new ≡ self.old) }
     {
-        self.judged(database, name, columns, key, references, at)?;
+        self.check_table(database, name, columns, key, references, at)?;
         let id = self.next_id();
         let ids = self.reference_ids(references, at)?;
         let made = Descriptor::create(self.alloc, id, database, name, columns, key, &ids, at);
         let d = match made {
             Ok(d) => d,
+            // `check_table` found no rule that is broken.
             Err(SchemaFault::BadSchema { .. }) => unreachable!(),
             Err(SchemaFault::Memory) => return Err(CatalogFault::Memory),
         };
@@ -372,7 +376,12 @@ impl Catalog {
 
     /// The descriptor that a change makes of one.
     #[tactic(auto, unfolding(crate::specs::Catalogs::change_fault))]
-    fn changed(&self, d: &Descriptor, change: &Change, at: Hlc) -> Result<Descriptor, CatalogFault>
+    fn make_changed(
+        &self,
+        d: &Descriptor,
+        change: &Change,
+        at: Hlc,
+    ) -> Result<Descriptor, CatalogFault>
         requires { d.now.version < 4294967295 }
         ensures made { IfOk result (λ e. (change_fault self.now at d.now change.now ≡ None) × (e ≡ changed_schema d.now change.now at)) }
         ensures fault { IfErr result (λ e. FaultIs e (change_fault self.now at d.now change.now)) }
@@ -394,7 +403,7 @@ impl Catalog {
         ensures made { OnOk result (self.new ≡ with_descriptor self.old (id - 100) d) }
         ensures kept { OnErr result (self.new ≡ self.old) }
     {
-        self.tables[(id - 100) as usize].push(d)
+        self.tables[(id - FIRST_TABLE_ID) as usize].push(d)
     }
 
     /// Changes a table from a date on, and answers the new version. Publishing and taking offline
@@ -407,9 +416,10 @@ impl Catalog {
         ensures kept { OnErr result (self.new ≡ self.old) }
     {
         let Some(d) = self.at(id, at) else {
+            // The caller knows that the table has a descriptor in force.
             unreachable!()
         };
-        let next = self.changed(d, change, at)?;
+        let next = self.make_changed(d, change, at)?;
         let version = next.version();
         self.push_descriptor(id, next)?;
         Ok(version)
@@ -437,7 +447,7 @@ impl Catalog {
         requires { IsTableId self.old id }
         ensures { self.new ≡ without_last self.old (id - 100) }
     {
-        self.tables[(id - 100) as usize].pop();
+        self.tables[(id - FIRST_TABLE_ID) as usize].pop();
     }
 
     /// Drops a table.
@@ -447,7 +457,7 @@ impl Catalog {
         ensures others { OnOk result ((ids : List ℕ) → AreChangeable self.old at (id ∷ ids) → AreChangeable self.new at ids) }
         ensures kept { OnErr result (self.new ≡ self.old) }
     {
-        let d = self.dropped(id, at)?;
+        let d = self.make_dropped(id, at)?;
         self.push_descriptor(id, d)
     }
 
@@ -479,11 +489,12 @@ impl Catalog {
     }
 
     /// The descriptor with which a table is dropped.
-    fn dropped(&self, id: u32, at: Hlc) -> Result<Descriptor, Memory>
+    fn make_dropped(&self, id: u32, at: Hlc) -> Result<Descriptor, Memory>
         requires { IsChangeable self.now at id }
         ensures { IfOk result (λ e. (d : Schema) → in_force (history_of self.now id) at ≡ Some d → e ≡ dropped d at) }
     {
         let Some(d) = self.at(id, at) else {
+            // The caller knows that the table has a descriptor in force.
             unreachable!()
         };
         match d.changed(self.alloc, &Change::Become(State::Dropped), at) {
@@ -511,7 +522,7 @@ impl Catalog {
         ensures { option_map Referenced result ≡ drop_fault self.now t ids.now }
     {
         match first_referring(&self.tables, ids, t) {
-            Some(place) => Some(100 + place as u32),
+            Some(place) => Some(FIRST_TABLE_ID + place as u32),
             None => None,
         }
     }

@@ -4,9 +4,8 @@
 mod catalog;
 mod dated;
 mod faults;
+mod laws;
 
-pub use catalog::Catalog;
+pub use catalog::{Catalog, FIRST_TABLE_ID};
 pub use faults::CatalogFault;
-
-#[cfg(test)]
-mod tests;
+pub use laws::drops_are_of_these;

@@ -1,5 +1,5 @@
 -- Rows in bytes: order, tables, and what is added to them.
-use Rattle.std.proofs.Common.{◌≡◌, ◌≢◌, ℕ, ◌<◌, ◌^◌, ◌==◌, ◌&&◌, Bool, true, false, cond, sym, refl, ap, ap₂, ◌∙◌, subst, inl, inr, List, [], ◌∷◌, ◌++◌, map, take, Option, Some, None, Ordering, Less, Equal, Greater, is_eq, is_le, is_lt, arith, append-nil, append_assoc}
+use Rattle.std.proofs.Common.{◌≡◌, ◌≢◌, ℕ, ◌<◌, ◌^◌, ◌==◌, ◌&&◌, Bool, true, false, cond, sym, refl, ap, ap₂, ◌∙◌, subst, inl, inr, List, [], ◌∷◌, ◌++◌, map, Some, Ordering, Less, Equal, Greater, is_eq, is_le, is_lt, arith, append-nil, append_assoc}
 use Rattle.std.proofs.lemmas.List.{map-append}
 use Rattle.std.proofs.Math.Path.{fun_ext}
 use Rattle.std.proofs.lemmas.Bool.{eqb-true}
@@ -9,18 +9,16 @@ use Rattle.std.specs.Ordering.{nat_cmp, ordering_then}
 use Rattle.std.specs.Cmp.Lexicographic.{slice_cmp}
 use Rattle.mvcc_keys.specs.Times.{Time, time_lt}
 use Rattle.key_encoding.proofs.Grammars.{uvarint-found}
-use Rattle.key_encoding.specs.Spelling.{uvarint}
-use Rattle.key_encoding.specs.Reading.{read_uvarint}
 use Rattle.row_codec.specs.declared.rows.Kind.{Kind}
 use Rattle.row_codec.specs.RowOrder.{row_cmp}
 use Rattle.row_codec.specs.RowKeys.{row_key, values_code, IsKey}
 use Rattle.row_codec.specs.RowValues.{row_value}
 use Rattle.row_codec.proofs.KeyOrder.{row_keys-ordered}
 use Rattle.row_codec.proofs.KeyLaws.{row_keys-exact}
-use Rattle.fact_model.specs.Facts.{Fact, Put, Del, DelRange, date, touches, Has}
+use Rattle.fact_model.specs.Facts.{Put, Del, DelRange, date, touches}
+use Rattle.list_laws.specs.Members.{Has}
+use Rattle.list_laws.proofs.Members.{has-append_cases, map-has}
 use Rattle.fact_model.specs.Listed.{is_point}
-use Rattle.fact_model.specs.Mapped.{map_fact}
-use Rattle.fact_model.proofs.Members.{has-append_cases, map-has}
 use Rattle.history_model.specs.Rows.{Key, Cells, RowFact}
 use Rattle.version_store.specs.Tables.{Bytes, bytes_cmp, ByteFact, Tables, table_of, id_read, with_fact, raised}
 use Rattle.version_store.specs.Tables as store

@@ -1,5 +1,5 @@
 -- What rows and keys that passed their check are.
-use Rattle.std.proofs.Common.{◌≡◌, ℕ, Bool, true, false, not, ◌&&◌, ◌∷◌, [], List, sym, refl, ap, ◌∙◌, Option, Some, None, option_map, map, if◌then◌else◌, Result, Ok, Err, OnErr}
+use Rattle.std.proofs.Common.{◌≡◌, Bool, true, false, not, ◌∷◌, [], List, sym, refl, ap, ◌∙◌, Option, Some, None, option_map, if◌then◌else◌, Result, Ok, Err, OnErr}
 use Rattle.std.specs.List.{list_all}
 use Rattle.std.specs.Ordering.{is_lt}
 use Rattle.row_codec.specs.declared.rows.Datum.{Datum}
@@ -7,8 +7,7 @@ use Rattle.row_codec.specs.RowOrder.{row_cmp}
 use Rattle.row_codec.specs.RowKeys.{are_of_kinds}
 use Rattle.row_codec.proofs.KeyOrder.{both_true}
 use Rattle.table_descriptors.specs.Descriptors.{Schema, key_kinds}
-use Rattle.history_model.specs.Rows.{Key, key_of}
-use Rattle.history_model.specs.Histories.{key_order}
+use Rattle.history_model.specs.Rows.{Key}
 use Rattle.history_model.specs.RowTests.{wrong_row, wrong_key, large_row, large_key, repeated_row, repeated_key, is_empty_range}
 use Rattle.table_rows.specs.declared.faults.RowsFault.{RowsFault}
 use Rattle.table_rows.specs.declared.faults.RowsFault.TheVariants.{EmptyRange}

@@ -1,5 +1,5 @@
 -- Keys that come twice, by the set of their bytes.
-use Rattle.std.proofs.Common.{◌≡◌, ℕ, zero, suc, ◌+◌, ◌<◌, ◌^◌, length, get_or, take, drop, append-nil, append_assoc, Bool, true, false, cond, not, ◌||◌, sym, refl, ap, ap₂, ◌∙◌, subst, List, [], ◌∷◌, ◌++◌, Option, Some, None, Ordering, is_eq, arith}
+use Rattle.std.proofs.Common.{◌≡◌, ℕ, zero, suc, ◌+◌, ◌<◌, length, get_or, take, drop, append-nil, append_assoc, Bool, true, false, cond, not, ◌||◌, sym, refl, ap, ap₂, ◌∙◌, List, [], ◌∷◌, ◌++◌, Option, Some, None, Ordering, is_eq, arith}
 use Rattle.std.proofs.lemmas.List.{drop_more, take_more, length-take-le}
 use Rattle.std.proofs.lemmas.List.Folds.{list_any-append}
 use Rattle.std.specs.Global.{Vec}
@@ -12,7 +12,7 @@ use Rattle.row_codec.specs.RowOrder.{row_cmp}
 use Rattle.row_codec.specs.RowKeys.{row_key, IsKey}
 use Rattle.history_model.specs.Rows.{Key}
 use Rattle.history_model.specs.RowTests.{repeated_after}
-use Rattle.version_store.specs.Tables.{Bytes, bytes_cmp}
+use Rattle.version_store.specs.Tables.{bytes_cmp}
 use Rattle.table_rows.proofs.Coded.{keys-ordered}
 
 abbrev pub vec_cmp : Vec ℕ → Vec ℕ → Ordering

@@ -1,9 +1,10 @@
 -- Rows that fit their columns: their keys, and the cells beside them.
-use Rattle.std.proofs.Common.{◌≡◌, append_assoc, ℕ, ◌+◌, ◌<◌, ◌≤◌, ◌==◌, ◌&&◌, ◌||◌, not, nat_lt, Bool, true, false, cond, sym, refl, ap, ap₂, ◌∙◌, subst, arith, List, [], ◌∷◌, ◌++◌, map, length, Option, Some, None, inl, inr, if◌then◌else◌}
+use Rattle.std.proofs.Common.{◌≡◌, append_assoc, ℕ, ◌+◌, ◌≤◌, ◌==◌, ◌&&◌, ◌||◌, not, nat_lt, Bool, true, false, sym, refl, ap, ap₂, ◌∙◌, arith, List, [], ◌∷◌, ◌++◌, map, length, Some, None, if◌then◌else◌}
 use Rattle.std.proofs.lemmas.Bool.{eqb-true, eq-eqb}
 use Rattle.std.proofs.lemmas.Bool.Decides.{nat_tests}
 use Rattle.std.specs.List.{list_any, list_all}
 use Rattle.std.proofs.lemmas.List.Folds.{list_any-append}
+use Rattle.list_laws.proofs.Bools.{or-true}
 use Rattle.row_codec.specs.declared.rows.Kind.{Kind}
 use Rattle.row_codec.specs.declared.rows.Kind.TheVariants.{Int as KindInt, Text as KindText, Bytes as KindBytes, Bool as KindBool, IntDown, TextDown, BytesDown, BoolDown}
 use Rattle.row_codec.specs.declared.rows.Datum.{Datum}
@@ -15,7 +16,7 @@ use Rattle.row_codec.specs.RowValues.{are_cells}
 use Rattle.row_codec.proofs.KeyOrder.{both_true}
 use Rattle.table_descriptors.specs.declared.columns.Column.{Column}
 use Rattle.table_descriptors.specs.Descriptors.{Schema, has_id, is_column, ascends, column_id, kind_of, key_kind, key_kinds, turned}
-use Rattle.history_model.specs.Rows.{is_null, is_of, fits, misfit_from, wrong_column, value_in, or_null, key_of, cell_in, cells_in}
+use Rattle.history_model.specs.Rows.{is_null, is_of, fits, misfit_from, wrong_column, value_in, or_null, key_of, cells_in}
 use Rattle.history_model.specs.RowTests.{first_wrong}
 use Rattle.table_rows.proofs.Lists.{wrong-none}
 
@@ -86,12 +87,8 @@ keys-fit d row (id ∷ ids) len fit members there =
 ids-have : (front ids : List ℕ) → list_all (λ id. has_id id (front ++ ids)) ids ≡ true
 ids-have front [] = refl
 ids-have front (id ∷ ids) =
-    ap₂ (λ (a b : Bool). a && b) (list_any-append (λ x. x == id) front (id ∷ ids) ∙ (ap (λ (b : Bool). list_any (λ x. x == id) front || (b || list_any (λ x. x == id) ids)) (eq-eqb id id refl) ∙ by (list_any (λ x. x == id) front)))
+    ap₂ (λ (a b : Bool). a && b) (list_any-append (λ x. x == id) front (id ∷ ids) ∙ (ap (λ (b : Bool). list_any (λ x. x == id) front || (b || list_any (λ x. x == id) ids)) (eq-eqb id id refl) ∙ or-true (list_any (λ x. x == id) front)))
     (ap (λ (all : List ℕ). list_all (λ i. has_id i all) ids) (sym (append_assoc front (id ∷ []) ids)) ∙ ids-have (front ++ id ∷ []) ids)
-  where
-    by : (b : Bool) → (b || true) ≡ true
-    by true = refl
-    by false = refl
 
 right-row : (d : Schema) (row : List Datum) → wrong_column d row ≡ None → (length row ≡ length d.columns) × (misfit_from d.key_columns 1 d.columns row ≡ None)
 right-row d row e = by (length row == length d.columns) refl

@@ -1,22 +1,21 @@
 -- Facts that are added one after another.
-use Rattle.std.proofs.Common.{◌≡◌, ℕ, ◌+◌, ◌<◌, ◌≤◌, Bool, true, false, ◌||◌, sym, refl, ap, ◌∙◌, subst, inl, inr, arith, length, get_or, take, List, [], ◌∷◌, ◌++◌, map, Option, Some, None, Ordering, is_eq}
+use Rattle.std.proofs.Common.{◌≡◌, ℕ, ◌+◌, ◌<◌, ◌≤◌, Bool, true, false, ◌||◌, sym, refl, ap, ◌∙◌, subst, inl, inr, arith, length, get_or, take, List, [], ◌∷◌, ◌++◌, map, None, Ordering, is_eq}
 use Rattle.std.proofs.lemmas.List.{take_more, take_all, map-append, take-map, length-map}
 use Rattle.std.proofs.lemmas.Bool.{eq-eqb}
 use Rattle.std.proofs.Math.ListN.{get_or-map}
 use Rattle.std.specs.List.{list_any}
-use Rattle.mvcc_keys.specs.Times.{Time}
-use Rattle.row_codec.specs.declared.rows.Datum.{Datum}
 use Rattle.row_codec.specs.RowOrder.{row_cmp}
 use Rattle.row_codec.specs.RowKeys.{IsKey}
 use Rattle.table_descriptors.specs.Descriptors.{Schema, key_kinds}
-use Rattle.fact_model.specs.Facts.{Fact, Put, Del, DelRange, touches, Has}
+use Rattle.fact_model.specs.Facts.{touches}
+use Rattle.list_laws.specs.Members.{Has}
+use Rattle.list_laws.proofs.Members.{has-append_right, map-has, has-map}
 use Rattle.fact_model.specs.Listed.{is_point}
-use Rattle.fact_model.proofs.Members.{has-append_right, map-has, has-map}
-use Rattle.history_model.specs.Rows.{Key, RowFact, key_of, put_of}
-use Rattle.history_model.specs.RowTests.{repeated_after, repeated_key, repeated_row}
+use Rattle.history_model.specs.Rows.{Key, RowFact}
+use Rattle.history_model.specs.RowTests.{repeated_key}
 use Rattle.version_store.specs.Tables.{Tables}
-use Rattle.table_rows.specs.RowTables.{RowTables, IsRowFact, HasRows, HasFront, with_facts, MayAdd, MayAddAll, IsTableOf, deletion}
-use Rattle.table_rows.proofs.Coded.{may-next, next-added, none-added, key-same}
+use Rattle.table_rows.specs.RowTables.{RowTables, IsRowFact, HasRows, HasFront, with_facts, MayAdd}
+use Rattle.table_rows.proofs.Coded.{may-next, next-added, key-same}
 use Rattle.table_rows.proofs.Repeats.{none-repeats}
 
 -- no key of a front compares as equal to a later one

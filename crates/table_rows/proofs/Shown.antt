@@ -1,24 +1,25 @@
 -- Rows of a scan through their bytes.
-use Rattle.std.proofs.Common.{◌≡◌, ℕ, ◌<◌, ◌^◌, sym, refl, ap, ap₂, ◌∙◌, subst, inl, inr, List, [], ◌∷◌, map, Option, Some, None, Ordering}
+use Rattle.std.proofs.Common.{◌≡◌, ℕ, ◌<◌, ◌^◌, refl, ap, ap₂, ◌∙◌, subst, inl, inr, List, [], ◌∷◌, map, Option, Some, None, Ordering}
 use Rattle.std.specs.List.{filter_map}
 use Rattle.mvcc_keys.specs.Times.{Time}
 use Rattle.mvcc_keys.specs.declared.entries.Entry.{Entry}
 use Rattle.row_codec.specs.declared.rows.Kind.{Kind}
-use Rattle.row_codec.specs.declared.rows.Datum.{Datum}
 use Rattle.row_codec.specs.RowOrder.{row_cmp}
 use Rattle.row_codec.specs.RowKeys.{row_key, IsKey}
 use Rattle.row_codec.specs.RowValues.{row_value}
 use Rattle.row_codec.proofs.KeyLaws.{row_keys-exact, some_is}
 use Rattle.row_codec.proofs.ValueLaws.{row_values-exact}
 use Rattle.table_descriptors.specs.Descriptors.{Schema, key_kinds}
-use Rattle.fact_model.specs.Facts.{Put, Del, DelRange, Has, Version, version_of, newest, value}
+use Rattle.fact_model.specs.Facts.{Put, Del, DelRange, Version, version_of, newest, value}
+use Rattle.list_laws.specs.Members.{Has}
 use Rattle.fact_model.specs.Ordered.{ordered}
-use Rattle.fact_model.specs.Scans.{Item, item, version, keys_put, scan, image, put_of}
+use Rattle.fact_model.specs.Scans.{Item, version, keys_put, scan, image, put_of}
 use Rattle.fact_model.specs.Mapped.{KeysMeet, map_item}
 use Rattle.fact_model.proofs.Transport.{scan-map}
 use Rattle.fact_model.proofs.Orders.{ordered-has}
 use Rattle.fact_model.proofs.Scanned.{items-has}
-use Rattle.fact_model.proofs.Newest.{newest-is, IsNewest}
+use Rattle.fact_model.specs.Newest.{IsNewest}
+use Rattle.fact_model.proofs.Newest.{newest-is}
 use Rattle.history_model.specs.Rows.{Key, Cells, RowItem, RowFact, shown_row, shown_rows}
 use Rattle.version_store.specs.Tables.{Bytes, bytes_cmp, entry_of, entries_of, scan_at}
 use Rattle.table_rows.specs.RowTables.{RowTables, coded, bytes_of, IsCells, IsRowFact, AreRowFacts}
@@ -35,7 +36,8 @@ key-put k (Put q v at ∷ fs) (inr has) = (let p = key-put k fs has in (p.0, p.1
 key-put k (Del q at ∷ fs) has = (let p = key-put k fs has in (p.0, p.1, inr p.2))
 key-put k (DelRange lo hi at ∷ fs) has = (let p = key-put k fs has in (p.0, p.1, inr p.2))
 
-version-cells : (kinds : List Kind) (r : Option RowFact) (v : Version Cells) → ((f : RowFact) → r ≡ Some f → IsRowFact kinds f) → version_of r ≡ Some v → IsCells v.value
+-- the cells of a row's version
+pub version-cells : (kinds : List Kind) (r : Option RowFact) (v : Version Cells) → ((f : RowFact) → r ≡ Some f → IsRowFact kinds f) → version_of r ≡ Some v → IsCells v.value
 version-cells kinds None v all e = cc e
 version-cells kinds (Some (Put q w at)) v all e =
     let same : record { value = w; at = at } ≡ v = some_is _ _ e in

@@ -1,6 +1,6 @@
 -- The faults of rows and keys that commands give, and what a call answers.
 use Rattle.std.specs.Global.{Vec}
-use Rattle.std.specs.Prelude.{◌≡◌, ℕ, Bool, true, false, List, [], ◌∷◌, Option, Some, None, option_map, Result, Ok, Err, if◌then◌else◌}
+use Rattle.std.specs.Prelude.{◌≡◌, ℕ, true, false, List, [], ◌∷◌, Option, Some, None, option_map, Result, Ok, Err, if◌then◌else◌}
 use Rattle.mvcc_keys.specs.Times.{Time, time_lt}
 use Rattle.mvcc_keys.specs.declared.entries.Entry.{Entry}
 use Rattle.mvcc_keys.specs.declared.entries.Entry.TheVariants.{Put, Del, Range}

@@ -1,17 +1,17 @@
 -- The facts of each table as rows, and the bytes in which a store has them.
 use Rattle.std.specs.List.{AllByRecursion}
-use Rattle.std.specs.Prelude.{◌≡◌, ◌≢◌, ◌<◌, ◌^◌, ℕ, Bool, true, false, ◌==◌, cond, List, [], ◌∷◌, ◌++◌, map, take, Option, Some, None}
+use Rattle.std.specs.Prelude.{◌≡◌, ◌≢◌, ℕ, true, false, ◌==◌, cond, List, ◌++◌, map, take}
 use Rattle.mvcc_keys.specs.Times.{Time, time_lt}
 use Rattle.row_codec.specs.declared.rows.Kind.{Kind}
-use Rattle.row_codec.specs.declared.rows.Datum.{Datum}
 use Rattle.row_codec.specs.RowOrder.{row_cmp}
 use Rattle.row_codec.specs.RowKeys.{row_key, IsKey}
 use Rattle.row_codec.specs.RowValues.{row_value, are_cells, IsCell}
-use Rattle.fact_model.specs.Facts.{Fact, Put, Del, DelRange, date, touches, Has}
+use Rattle.fact_model.specs.Facts.{Put, Del, DelRange, date, touches}
+use Rattle.list_laws.specs.Members.{Has}
 use Rattle.fact_model.specs.Listed.{is_point}
 use Rattle.fact_model.specs.Mapped.{map_fact}
 use Rattle.table_descriptors.specs.Descriptors.{Schema, key_kinds}
-use Rattle.history_model.specs.Rows.{Key, Cells, RowFact, key_of, put_of}
+use Rattle.history_model.specs.Rows.{Key, Cells, RowFact}
 use Rattle.version_store.specs.Tables.{Tables, ByteFact}
 
 -- by table: the kinds of its key columns, all facts that were ever accepted, and the time up to which they may be

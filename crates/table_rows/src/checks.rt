@@ -10,7 +10,7 @@ ghost use Rattle.history_model.specs.Rows.{key_of, cells_in, wrong_column};
 ghost use Rattle.history_model.specs.RowTests.{first_wrong, wrong_row, key_misfit_from, wrong_key_column, columns_len, is_large_key, is_large_row, large_row, first_number, repeated_after};
 
 use crate::columns::{cells_of, key_of, wrong_column};
-use crate::values::values_fit;
+use crate::values::prove_values_fit;
 use mvcc_keys::Memory;
 use row_codec::{Cell, Datum, Kind, Row, is_of_kind, row_cmp, row_key, row_value};
 use std::alloc::Global;
@@ -91,13 +91,21 @@ pub fn value_bytes(alloc: Global, cells: &[Cell]) -> Result<Vec<u8>, Memory>
     Ok(bytes)
 }
 
-/// Whether the key columns take more than 4,096 bytes. A key of table 0 has three more bytes: the
-/// table's id, the index, the column family.
+/// The most bytes that the key columns of a row take.
+pub const KEY_COLUMNS_BYTES_MAX: usize = 4096;
+
+/// The most bytes that a row's value takes.
+pub const ROW_VALUE_BYTES_MAX: usize = 32_768;
+
+/// The bytes of a key of table 0 around its columns: the table's id, the index, the column family.
+const KEY_FRAME_BYTES: usize = 3;
+
+/// Whether the key columns take more bytes than they may.
 fn is_large_key(alloc: Global, kinds: &[Kind], key: &Row) -> Result<bool, Memory>
     requires { are_of_kinds kinds.now key.now ≡ true }
     ensures { IfOk result (λ r. r ≡ is_large_key kinds.now key.now) }
 {
-    Ok(key_bytes(alloc, 0, kinds, key)?.as_slice().len() > 4099)
+    Ok(key_bytes(alloc, 0, kinds, key)?.as_slice().len() > KEY_COLUMNS_BYTES_MAX + KEY_FRAME_BYTES)
 }
 
 fn is_large_value(alloc: Global, d: &Descriptor, row: &Row) -> Result<bool, Memory>
@@ -105,7 +113,7 @@ fn is_large_value(alloc: Global, d: &Descriptor, row: &Row) -> Result<bool, Memo
     ensures { IfOk result (λ r. r ≡ nat_lt 32768 (length (row_value (cells_in d.now.key_columns d.now.columns row.now)))) }
 {
     let cells = cells_of(alloc, d, row)?;
-    Ok(value_bytes(alloc, &cells)?.as_slice().len() > 32_768)
+    Ok(value_bytes(alloc, &cells)?.as_slice().len() > ROW_VALUE_BYTES_MAX)
 }
 
 fn is_large_row(alloc: Global, d: &Descriptor, kinds: &[Kind], row: &Row) -> Result<bool, Memory>
@@ -165,7 +173,7 @@ pub fn repeated_key(alloc: Global, kinds: &[Kind], keys: &[Row]) -> Result<Optio
     let mut seen: BTreeSet<Vec<u8>> = BTreeSet::new(alloc);
     let mut number: usize = 1;
     for key in keys {
-        values_fit(key);
+        prove_values_fit(key);
         let bytes = key_bytes(alloc, 0, kinds, key)?;
         if !seen.insert(bytes)? {
             return Ok(Some(number));

@@ -10,7 +10,8 @@ pub enum RowsFault {
     /// The place, from 1, of the first value of the wrong type, or NULL in a key; column 0: a wrong
     /// count of values.
     WrongRow { row: usize, column: usize },
-    /// The key columns take more than 4,096 bytes, or the row's value more than 32,768.
+    /// The key columns take more than `KEY_COLUMNS_BYTES_MAX`, or the row's value more than
+    /// `ROW_VALUE_BYTES_MAX`.
     TooLarge { row: usize },
     /// The row's key came earlier in the list.
     DuplicateKey { row: usize },

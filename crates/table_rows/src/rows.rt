@@ -17,7 +17,7 @@ use crate::checks::{
     wrong_row,
 };
 use crate::columns::{cells_of, key_of, shown_row};
-use crate::values::{cells_fit, values_fit};
+use crate::values::{prove_cells_fit, prove_values_fit};
 use crate::{RowsFault, SelectFault};
 use mvcc_keys::{Entry, Hlc, Memory};
 use row_codec::{Kind, Row, RowFault, read_row_key, read_row_value};
@@ -135,9 +135,9 @@ impl<V: Versions> TableRows<V> {
     {
         d.proper();
         let key = key_of(self.alloc, d, row)?;
-        values_fit(&key);
+        prove_values_fit(&key);
         let cells = cells_of(self.alloc, d, row)?;
-        cells_fit(&cells);
+        prove_cells_fit(&cells);
         let key = key_bytes(self.alloc, d.id(), kinds, &key)?;
         let value = value_bytes(self.alloc, &cells)?;
         self.put_stored(&key, at, &value)
@@ -172,7 +172,7 @@ impl<V: Versions> TableRows<V> {
             (IsKey (T.kinds d.now.id) key.now → MayAdd T d.now.id (deletion at key.now)) → HasRows (V.stands self.new) (with_facts d.now.id (deletion at key.now ∷ []) T)) }
         ensures kept { OnErr result ((T : RowTables) → HasRows (V.stands self.old) T → HasRows (V.stands self.new) T) }
     {
-        values_fit(key);
+        prove_values_fit(key);
         let bytes = key_bytes(self.alloc, d.id(), kinds, key)?;
         self.store.delete(&bytes, at)
     }
@@ -206,8 +206,8 @@ impl<V: Versions> TableRows<V> {
         ensures kept { OnErr result ((T : RowTables) → HasRows (V.stands self.old) T → HasRows (V.stands self.new) T) }
     {
         let kinds = d.key_kinds(self.alloc)?;
-        values_fit(lo);
-        values_fit(hi);
+        prove_values_fit(lo);
+        prove_values_fit(hi);
         let from = key_bytes(self.alloc, d.id(), &kinds, lo)?;
         let to = key_bytes(self.alloc, d.id(), &kinds, hi)?;
         self.store.delete_range(&from, &to, at)

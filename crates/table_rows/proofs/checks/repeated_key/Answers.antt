@@ -1,4 +1,4 @@
-use Rattle.std.proofs.Common.{◌≡◌, ◌+◌, true, false, sym, ap, ◌∙◌, Some, ℕ}
+use Rattle.std.proofs.Common.{◌+◌, sym, ap, ◌∙◌, Some, ℕ}
 use Rattle.row_codec.specs.RowKeys.{are_of_kinds, IsKey}
 use Rattle.row_codec.specs.RowOrder.{row_cmp}
 use Rattle.table_rows.proofs.Lists.{passes}
@@ -12,7 +12,7 @@ pub returns-then-not-branch : goal.returns-then-not-branch
 returns-then-not-branch c =
     let kinds = c.args.kinds.now in
     let key = c.key-item.result in
-    let is : IsKey kinds key = (passes (are_of_kinds kinds) c.args.keys.now c.loop-key.key-index key c.requires c.loop-key-test.true c.key-item.is, c.values_fit.ensures) in
+    let is : IsKey kinds key = (passes (are_of_kinds kinds) c.args.keys.now c.loop-key.key-index key c.requires c.loop-key-test.true c.key-item.is, c.prove_values_fit.ensures) in
     let has = c.loop-key.invariant.2 c.in_ok-bytes.bytes key is c.in_ok-bytes.ensures in
     ap (λ (n : ℕ). Some n) c.loop-key.invariant.0
     ∙ repeated_here (row_cmp kinds) c.args.keys.now c.loop-key.key-index key _ c.loop-key-test.true c.key-item.is (sym has ∙ was-seen c.in_ok-insert.field-0 _ c.in_ok-insert.ensures.added c.if-not-branch.true) c.loop-key.invariant.1
@@ -21,7 +21,7 @@ pub loop-key-preserved : goal.loop-key-preserved
 loop-key-preserved c =
     let kinds = c.args.kinds.now in
     let key = c.key-item.result in
-    let is : IsKey kinds key = (passes (are_of_kinds kinds) c.args.keys.now c.loop-key.key-index key c.requires c.loop-key-test.true c.key-item.is, c.values_fit.ensures) in
+    let is : IsKey kinds key = (passes (are_of_kinds kinds) c.args.keys.now c.loop-key.key-index key c.requires c.loop-key-test.true c.key-item.is, c.prove_values_fit.ensures) in
     let has = c.loop-key.invariant.2 c.in_ok-bytes.bytes key is c.in_ok-bytes.ensures in (
       ap (λ (n : ℕ). n + 1) c.loop-key.invariant.0,
       repeated_later (row_cmp kinds) c.args.keys.now c.loop-key.key-index key _ c.loop-key-test.true c.key-item.is (sym has ∙ was-unseen c.in_ok-insert.field-0 _ c.in_ok-insert.ensures.added c.if-not-branch.false) c.loop-key.invariant.1,

@@ -1,4 +1,4 @@
-use Rattle.std.proofs.Common.{◌≡◌, sym, ap, ap₂, ◌∙◌, List, true}
+use Rattle.std.proofs.Common.{sym, ap₂, ◌∙◌, List}
 use Rattle.std.specs.List.{list_all}
 use Rattle.row_codec.specs.declared.rows.Kind.{Kind}
 use Rattle.row_codec.specs.RowKeys.{are_of_kinds}

@@ -1,13 +1,13 @@
-use Rattle.std.proofs.Common.{◌≡◌, ◌∙◌, sym, refl, ap, map, List, ℕ, None}
+use Rattle.std.proofs.Common.{◌≡◌, ◌∙◌, refl, ap, map, None}
 use Rattle.std.proofs.lemmas.List.{map-id}
 use Rattle.row_codec.specs.RowKeys.{are_of_kinds}
 use Rattle.table_descriptors.specs.Descriptors.{key_kinds}
-use Rattle.fact_model.proofs.Members.{has-map}
+use Rattle.list_laws.proofs.Members.{has-map}
 use Rattle.history_model.specs.Rows.{Key}
 use Rattle.history_model.specs.RowTests.{repeated_key}
 use Rattle.table_rows.specs.RowTables.{deletion}
 use Rattle.table_rows.proofs.Lists.{passes, has-at}
-use Rattle.table_rows.proofs.Coded.{kept, none-added}
+use Rattle.table_rows.proofs.Coded.{none-added}
 use Rattle.table_rows.proofs.Runs.{next-may, next-has, front-has, all-has}
 use Rattle.table_rows.proofs.Passed.{keys-passed, err-always}
 use Rattle.table_rows.proofs.rows.TableRows.delete.Goals as goal

@@ -1,4 +1,4 @@
-use Rattle.std.proofs.Common.{◌≡◌, sym, ap, ap₂, ◌∙◌, subst, List, arith, ℕ, ◌<◌, ◌^◌, true}
+use Rattle.std.proofs.Common.{sym, ap, ap₂, ◌∙◌, subst, List, arith, ℕ, ◌<◌, ◌^◌}
 use Rattle.std.specs.Ordering.{is_lt}
 use Rattle.std.proofs.lemmas.Result.{on_ok_weaker}
 use Rattle.row_codec.specs.declared.rows.Kind.{Kind}
@@ -19,8 +19,8 @@ returns-clause-added g c = rw (← c.self.view_is) (on_ok_weaker c.delete_range.
     let d = c.args.d.now in
     let passed = range-passed d c.args.lo.now c.args.hi.now c.requires in
     let small : d.id < 2 ^ 32 = omega (arith, c.id.type_inv, c.id.ensures) in
-    let lo : IsKey (T.kinds d.id) c.args.lo.now = subst (λ (ks : List Kind). IsKey ks c.args.lo.now) (sym kinds) (passed.0, c.values_fit.ensures) in
-    let hi : IsKey (T.kinds d.id) c.args.hi.now = subst (λ (ks : List Kind). IsKey ks c.args.hi.now) (sym kinds) (passed.1, c.values_fit-2.ensures) in
+    let lo : IsKey (T.kinds d.id) c.args.lo.now = subst (λ (ks : List Kind). IsKey ks c.args.lo.now) (sym kinds) (passed.0, c.prove_values_fit.ensures) in
+    let hi : IsKey (T.kinds d.id) c.args.hi.now = subst (λ (ks : List Kind). IsKey ks c.args.hi.now) (sym kinds) (passed.1, c.prove_values_fit-2.ensures) in
     range-added _ _ T d.id c.args.lo.now c.args.hi.now c.args.at _ _ has small
     (c.deref-3.ensures.value ∙ (c.in_ok-from.ensures ∙ ap₂ (λ (i : ℕ) (ks : List Kind). row_key i ks c.args.lo.now) c.id.ensures (c.deref.ensures.value ∙ (c.in_ok-kinds.ensures ∙ sym kinds)))) lo
     (c.deref-4.ensures.value ∙ (c.in_ok-to.ensures ∙ ap₂ (λ (i : ℕ) (ks : List Kind). row_key i ks c.args.hi.now) c.id-2.ensures (c.deref-2.ensures.value ∙ (c.in_ok-kinds.ensures ∙ sym kinds)))) hi

@@ -25,8 +25,8 @@ returns-clause-added g c = on_ok_weaker c.put_stored.result (λ put T has kinds 
     let row = c.args.row.now in
     let small : d.id < 2 ^ 32 = omega (arith, c.id.type_inv, c.id.ensures) in
     let fit : are_of_kinds (key_kinds d) (key_of d row) ≡ true = key-kinds d row c.proper.ensures.key_columns c.requires.fits in
-    let is : IsKey (T.kinds d.id) (key_of d row) = subst (λ (ks : List Kind). IsKey ks (key_of d row)) (sym kinds) (fit, subst (λ (key : Key). AllByRecursion IsValue key) c.in_ok-key.ensures c.values_fit.ensures) in
-    let cells : IsCells (cells_in d.key_columns d.columns row) = (cells-ascend d.key_columns 0 d.columns row c.proper.ensures.columns.ascend, subst (λ (cs : List Cell). AllByRecursion IsCell cs) (c.deref.ensures.value ∙ c.in_ok-cells.ensures) c.cells_fit.ensures) in
+    let is : IsKey (T.kinds d.id) (key_of d row) = subst (λ (ks : List Kind). IsKey ks (key_of d row)) (sym kinds) (fit, subst (λ (key : Key). AllByRecursion IsValue key) c.in_ok-key.ensures c.prove_values_fit.ensures) in
+    let cells : IsCells (cells_in d.key_columns d.columns row) = (cells-ascend d.key_columns 0 d.columns row c.proper.ensures.columns.ascend, subst (λ (cs : List Cell). AllByRecursion IsCell cs) (c.deref.ensures.value ∙ c.in_ok-cells.ensures) c.prove_cells_fit.ensures) in
     put T d.id (key_of d row) (cells_in d.key_columns d.columns row) has small
     (c.deref-3.ensures.value ∙ (c.in_ok-key-2.ensures ∙ (ap (λ (ks : List Kind). row_key c.id.result ks c.in_ok-key.key) (c.requires.kinds ∙ sym kinds) ∙ ap₂ (λ (i : ℕ) (key : Key). row_key i (T.kinds d.id) key) c.id.ensures c.in_ok-key.ensures))) is
     (c.deref-4.ensures.value ∙ (c.in_ok-value.ensures ∙ ap row_value (c.deref-2.ensures.value ∙ c.in_ok-cells.ensures))) cells (may is)) c.put_stored.ensures.added

@@ -1,8 +1,8 @@
-use Rattle.std.proofs.Common.{◌≡◌, ◌∙◌, sym, refl, ap, map, List, ℕ, None}
-use Rattle.fact_model.proofs.Members.{has-map}
-use Rattle.history_model.specs.Rows.{Key, key_of, put_of, wrong_column}
+use Rattle.std.proofs.Common.{◌∙◌, refl}
+use Rattle.list_laws.proofs.Members.{has-map}
+use Rattle.history_model.specs.Rows.{key_of, put_of, wrong_column}
 use Rattle.table_rows.proofs.Lists.{right, has-at}
-use Rattle.table_rows.proofs.Coded.{kept, none-added}
+use Rattle.table_rows.proofs.Coded.{none-added}
 use Rattle.table_rows.proofs.Runs.{next-may, next-has, front-has, all-has}
 use Rattle.table_rows.proofs.Passed.{rows-passed, err-always}
 use Rattle.table_rows.proofs.rows.TableRows.upsert.Goals as goal

@@ -1,6 +1,6 @@
 use Rattle.std.proofs.Common.{map, take}
 use Rattle.history_model.specs.Rows.{put_of}
-use Rattle.table_rows.specs.RowTables.{RowTables, HasRows, IsTableOf, MayAddAll, with_facts, deletion}
+use Rattle.table_rows.specs.RowTables.{RowTables, HasRows, IsTableOf, MayAddAll, with_facts}
 use Rattle.table_rows.proofs.rows.TableRows.upsert.Given as goal
 
 abbrev pub invariant-loop-row : goal.invariant-loop-row
