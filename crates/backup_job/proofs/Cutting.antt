@@ -8,7 +8,7 @@ unfolding chunk_size
 size_pos = omega arith
 
 -- what a piece leaves is shorter
-shorter : {X : Type 0} (n room : ℕ) (x : X) (xs : List X) → 0 < n → length (x ∷ xs) ≤ suc room → length (drop n (x ∷ xs)) ≤ room
+pub shorter : {X : Type 0} (n room : ℕ) (x : X) (xs : List X) → 0 < n → length (x ∷ xs) ≤ suc room → length (drop n (x ∷ xs)) ≤ room
 shorter n room x xs pos le = let l = length-drop n (x ∷ xs) in let m : suc (length xs) ≤ suc room = le in let s : length (x ∷ xs) ≡ suc (length xs) = refl in omega (arith, l, m, s, pos)
 
 -- more times than elements make no difference

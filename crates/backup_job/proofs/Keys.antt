@@ -9,15 +9,18 @@ use Rattle.std.proofs.lemmas.Cmp.{nat_list_cmp_total}
 use Rattle.std.proofs.lemmas.List.{length-append}
 use Rattle.sha2.proofs.Facts256.{length-sha256}
 use Rattle.mvcc_keys.specs.Codes.{bytes64, counter_bytes, mvcc_key}
+use Rattle.mvcc_keys.specs.Entries.{key_of, end_of}
 use Rattle.mvcc_keys.specs.Times.{Time}
 use Rattle.mvcc_keys.specs.declared.entries.Entry.{Entry}
 use Rattle.row_codec.specs.declared.rows.Kind.{Kind}
 use Rattle.version_store.specs.Tables.{bytes_cmp}
 use Rattle.chunk_file.specs.Chunks.{chunk_bytes}
-use Rattle.chunk_file.specs.Entries.{IsStored, is_entry, is_row_key, key_of}
+use Rattle.chunk_file.specs.Entries.{IsStored, is_entry, is_row_key}
 use Rattle.layer_manifest.specs.Manifests.{IsBounded}
-use Rattle.backup_job.specs.Contents.{bounds_of, end_of, greater, greatest_key, info_of, least_key, lesser}
+use Rattle.backup_job.specs.Contents.{bounds_of, greater, greatest_key, info_of, least_key, lesser}
 use Rattle.backup_job.specs.Jobs.{InfosAreProper}
+use Rattle.list_laws.proofs.Bools.{and-left}
+use Rattle.list_laws.proofs.Members.{all-weaker}
 
 -- ---- what holds of all keys holds of the least and of the greatest
 
@@ -88,10 +91,6 @@ greatest_le k (e ∷ es) = le_trans k (greater k (end_of e)) (greatest_key (grea
 
 -- ---- entries
 
-both : (a b : Bool) → (a && b) ≡ true → a ≡ true
-both true b h = refl
-both false b h = absurd cc
-
 three : (a b c : Bool) → (a && b && c) ≡ true → (a ≡ true) × (b ≡ true) × (c ≡ true)
 three true true true h = (refl, refl, refl)
 three true true false h = absurd cc
@@ -100,13 +99,13 @@ three false b c h = absurd cc
 
 key_ok : (table : ℕ) (kinds : List Kind) (e : Entry) → is_entry table kinds e ≡ true → is_row_key table kinds (key_of e) ≡ true
 unfolding is_entry
-key_ok table kinds (Entry.Put key at value) h = both _ _ h
+key_ok table kinds (Entry.Put key at value) h = and-left _ _ h
 key_ok table kinds (Entry.Del key at) h = h
 key_ok table kinds (Entry.Range lo hi at) h = (three (is_row_key table kinds lo) (is_row_key table kinds hi) (is_lt (slice_cmp nat_cmp lo hi)) h).0
 
 end_ok : (table : ℕ) (kinds : List Kind) (e : Entry) → is_entry table kinds e ≡ true → is_row_key table kinds (end_of e) ≡ true
 unfolding is_entry
-end_ok table kinds (Entry.Put key at value) h = both _ _ h
+end_ok table kinds (Entry.Put key at value) h = and-left _ _ h
 end_ok table kinds (Entry.Del key at) h = h
 end_ok table kinds (Entry.Range lo hi at) h = (three (is_row_key table kinds lo) (is_row_key table kinds hi) (is_lt (slice_cmp nat_cmp lo hi)) h).1
 
@@ -131,10 +130,6 @@ end_short (Entry.Put key at value) s = within_key key at s.1
 end_short (Entry.Del key at) s = within_key key at s.1
 end_short (Entry.Range lo hi at) s = s.2
 
-each_so : {X : Type 0} (P Q : X → Type 0) → ((x : X) → P x → Q x) → (xs : List X) → AllByRecursion P xs → AllByRecursion Q xs
-each_so P Q f [] all = tt
-each_so P Q f (x ∷ xs) all = (f x all.0, each_so P Q f xs all.1)
-
 -- ---- chunks
 
 all_true : (a b c : Bool) → a ≡ true → b ≡ true → c ≡ true → (a && b && c) ≡ true
@@ -145,11 +140,11 @@ bounded table kinds [] some each stored = absurd (omega arith)
 bounded table kinds (e ∷ es) some each stored = (
   refl,
   all_true _ _ _
-      (least_has (λ k. is_row_key table kinds k ≡ true) (key_of e) es (key_ok table kinds e each.0) (each_so (λ d. is_entry table kinds d ≡ true) (λ d. is_row_key table kinds (key_of d) ≡ true) (key_ok table kinds) es each.1))
-      (greatest_has (λ k. is_row_key table kinds k ≡ true) (end_of e) es (end_ok table kinds e each.0) (each_so (λ d. is_entry table kinds d ≡ true) (λ d. is_row_key table kinds (end_of d) ≡ true) (end_ok table kinds) es each.1))
+      (least_has (λ k. is_row_key table kinds k ≡ true) (key_of e) es (key_ok table kinds e each.0) (all-weaker (λ d. is_entry table kinds d ≡ true) (λ d. is_row_key table kinds (key_of d) ≡ true) (key_ok table kinds) es each.1))
+      (greatest_has (λ k. is_row_key table kinds k ≡ true) (end_of e) es (end_ok table kinds e each.0) (all-weaker (λ d. is_entry table kinds d ≡ true) (λ d. is_row_key table kinds (end_of d) ≡ true) (end_ok table kinds) es each.1))
       (le_trans (least_key (key_of e) es) (key_of e) (greatest_key (end_of e) es) (least_le (key_of e) es) (le_trans (key_of e) (end_of e) (greatest_key (end_of e) es) (key_end table kinds e each.0) (greatest_le (end_of e) es))),
-  least_has (λ k. length k < 2 ^ 64) (key_of e) es (key_short e stored.0) (each_so IsStored (λ d. length (key_of d) < 2 ^ 64) key_short es stored.1),
-  greatest_has (λ k. length k < 2 ^ 64) (end_of e) es (end_short e stored.0) (each_so IsStored (λ d. length (end_of d) < 2 ^ 64) end_short es stored.1),
+  least_has (λ k. length k < 2 ^ 64) (key_of e) es (key_short e stored.0) (all-weaker IsStored (λ d. length (key_of d) < 2 ^ 64) key_short es stored.1),
+  greatest_has (λ k. length k < 2 ^ 64) (end_of e) es (end_short e stored.0) (all-weaker IsStored (λ d. length (end_of d) < 2 ^ 64) end_short es stored.1),
 )
 
 pub infos_proper : InfosAreProper

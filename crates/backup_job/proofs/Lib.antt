@@ -8,3 +8,4 @@ pub mod Bare
 pub mod Ordered
 pub mod Keys
 pub mod Whole
+pub mod CutPieces

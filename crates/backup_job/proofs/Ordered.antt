@@ -5,8 +5,10 @@ use Rattle.std.specs.List.Sorted.{IsStrictlySortedBy}
 use Rattle.std.proofs.lemmas.List.{length-take}
 use Rattle.mvcc_keys.specs.declared.entries.Entry.{Entry}
 use Rattle.row_codec.specs.declared.rows.Kind.{Kind}
+use Rattle.list_laws.proofs.Members.{all-drop, all-take}
 use Rattle.span_export.specs.Pieces.{is_after, place_of}
-use Rattle.span_export.proofs.EntryOrder.{after-is, order, plan-sorted}
+use Rattle.span_export.specs.Entries.{order}
+use Rattle.span_export.proofs.EntryOrder.{after-is, plan-sorted}
 use Rattle.chunk_file.specs.Chunks.{IsChunk}
 use Rattle.chunk_file.specs.Entries.{are_ordered, comes_before, is_entry}
 use Rattle.backup_job.specs.Contents.{chunk_size, cut, cut_times}
@@ -14,7 +16,7 @@ use Rattle.backup_job.specs.Jobs.{PiecesAreChunks}
 use Rattle.backup_job.proofs.Cutting.{size_pos}
 
 -- the order of a chunk is that of exports
-comes_is : (d e : Entry) → comes_before d e ≡ is_after (place_of d) e
+pub comes_is : (d e : Entry) → comes_before d e ≡ is_after (place_of d) e
 unfolding comes_before
 comes_is (Entry.Put k t v) (Entry.Put q s w) = refl
 comes_is (Entry.Put k t v) (Entry.Del q s) = refl
@@ -31,28 +33,19 @@ unfolding IsStrictlySortedBy
 ordered_after d [] above up = refl
 ordered_after d (e ∷ es) above up = rw (comes_is d e, after-is d e, above.0) (ordered_after e es up.0 up.1)
 
-ordered_all : (es : List Entry) → IsStrictlySortedBy order es → are_ordered None es ≡ true
+-- sorted entries are in a chunk's order
+pub ordered_all : (es : List Entry) → IsStrictlySortedBy order es → are_ordered None es ≡ true
 unfolding IsStrictlySortedBy
 ordered_all [] up = refl
 ordered_all (e ∷ es) up = ordered_after e es up.0 up.1
 
 -- ---- parts of a list
 
-pub all_take : {X : Type 0} (P : X → Type 0) (n : ℕ) (xs : List X) → AllByRecursion P xs → AllByRecursion P (take n xs)
-all_take P zero xs all = tt
-all_take P (suc n) [] all = tt
-all_take P (suc n) (x ∷ xs) all = (all.0, all_take P n xs all.1)
-
-pub all_drop : {X : Type 0} (P : X → Type 0) (n : ℕ) (xs : List X) → AllByRecursion P xs → AllByRecursion P (drop n xs)
-all_drop P zero xs all = all
-all_drop P (suc n) [] all = tt
-all_drop P (suc n) (x ∷ xs) all = all_drop P n xs all.1
-
 sorted_take : (n : ℕ) (es : List Entry) → IsStrictlySortedBy order es → IsStrictlySortedBy order (take n es)
 unfolding IsStrictlySortedBy
 sorted_take zero es up = tt
 sorted_take (suc n) [] up = tt
-sorted_take (suc n) (e ∷ es) up = (all_take (λ d. order e d ≡ Less) n es up.0, sorted_take n es up.1)
+sorted_take (suc n) (e ∷ es) up = (all-take (λ d. order e d ≡ Less) n es up.0, sorted_take n es up.1)
 
 sorted_drop : (n : ℕ) (es : List Entry) → IsStrictlySortedBy order es → IsStrictlySortedBy order (drop n es)
 unfolding IsStrictlySortedBy
@@ -70,14 +63,14 @@ piece_chunk : (table : ℕ) (kinds : List Kind) (e : Entry) (es : List Entry) �
 piece_chunk table kinds e es all up = record {
   some = let l = length-take chunk_size (e ∷ es) in let s : length (e ∷ es) ≡ suc (length es) = refl in let p = size_pos in omega (arith, l, s, p);
   most = let l = length-take chunk_size (e ∷ es) in let s = size_is in omega (arith, l, s);
-  each = all_take (λ d. is_entry table kinds d ≡ true) chunk_size (e ∷ es) all;
+  each = all-take (λ d. is_entry table kinds d ≡ true) chunk_size (e ∷ es) all;
   ordered = ordered_all (take chunk_size (e ∷ es)) (sorted_take chunk_size (e ∷ es) up);
 }
 
 cut_chunks : (table : ℕ) (kinds : List Kind) (times : ℕ) (es : List Entry) → AllByRecursion (λ d. is_entry table kinds d ≡ true) es → IsStrictlySortedBy order es → AllByRecursion (IsChunk table kinds) (cut_times times chunk_size es)
 cut_chunks table kinds zero es all up = tt
 cut_chunks table kinds (suc times) [] all up = tt
-cut_chunks table kinds (suc times) (e ∷ es) all up = (piece_chunk table kinds e es all up, cut_chunks table kinds times (drop chunk_size (e ∷ es)) (all_drop (λ d. is_entry table kinds d ≡ true) chunk_size (e ∷ es) all) (sorted_drop chunk_size (e ∷ es) up))
+cut_chunks table kinds (suc times) (e ∷ es) all up = (piece_chunk table kinds e es all up, cut_chunks table kinds times (drop chunk_size (e ∷ es)) (all-drop (λ d. is_entry table kinds d ≡ true) chunk_size (e ∷ es) all) (sorted_drop chunk_size (e ∷ es) up))
 
 pub pieces_chunks : PiecesAreChunks
 unfolding cut

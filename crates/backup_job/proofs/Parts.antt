@@ -10,6 +10,7 @@ use Rattle.layer_manifest.specs.Manifests.{IsNextTable, chunk_count}
 use Rattle.layer_manifest.proofs.Steps.{chunks_more}
 use Rattle.backup_job.specs.Contents.{in_a_row, info_of, with_each, with_pieces}
 use Rattle.backup_job.specs.Units.{put_front, with_info}
+use Rattle.layer_manifest.proofs.FewChunks.{count_few}
 
 abbrev Pieces : Type 0
 Pieces = List (List Entry)
@@ -56,14 +57,6 @@ count_each (t ∷ ts) [] le = let z : length (in_a_row []) ≡ 0 = refl in omega
 count_each (t ∷ ts) (ps ∷ tables) le =
     let a = count_cons t ts in let b = count_cons (with_pieces t ps) (with_each ts tables) in let r = count_each ts tables (let m : suc (length tables) ≤ suc (length ts) = le in omega arith) in
     let l = length-append t.chunks (map info_of ps) in let k = length-map ps info_of in let j = length-append ps (in_a_row tables) in omega (arith, a, b, r, l, k, j)
-
--- a proper manifest has at most 1,000,000 chunks
-pub count_few : (version : ℕ) (before ts : List TablePart) → EachAfter (IsNextTable version) before ts → chunk_count before ≤ 1000000 → chunk_count (before ++ ts) ≤ 1000000
-count_few version before [] each le = let e : chunk_count (before ++ []) ≡ chunk_count before = ap chunk_count (append-nil before) in omega (arith, e, le)
-count_few version before (t ∷ ts) each le =
-    let few = each.0.few in let more = chunks_more before t in
-    let all = count_few version (before ++ t ∷ []) ts each.1 (omega (arith, few, more)) in
-    let e : chunk_count ((before ++ t ∷ []) ++ ts) ≡ chunk_count (before ++ t ∷ ts) = ap chunk_count (append_assoc before (t ∷ []) ts) in omega (arith, all, e)
 
 -- ---- a chunk more, as a write to a list
 

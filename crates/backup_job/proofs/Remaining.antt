@@ -14,6 +14,7 @@ use Rattle.backup_job.specs.declared.pieces.Piece.{Piece}
 use Rattle.backup_job.specs.Searches.{IsNextAt}
 use Rattle.backup_job.specs.Units.{IsFirst, put_front}
 use Rattle.backup_job.proofs.Cutting.{cut-more, cut-nil, size_pos}
+use Rattle.list_laws.proofs.Places.{take-none}
 
 abbrev Pieces : Type 0
 Pieces = List (List Entry)
@@ -62,11 +63,6 @@ first_at h (p ∷ plans) (suc place) cursor next plan at some follows = ap (λ (
 then_reached : (n : ℕ) (es done left next : List Entry) → es ≡ done ++ left → next ≡ drop n left → es ≡ (done ++ take n left) ++ next
 then_reached n es done left next e is = e ∙ (ap (λ (xs : List Entry). done ++ xs) (sym (take-append-drop n left)) ∙ (sym (append_assoc done (take n left) (drop n left)) ∙ ap (λ (xs : List Entry). (done ++ take n left) ++ xs) (sym is)))
 
-none_taken : (n : ℕ) (es : List Entry) → es ≡ [] → take n es ≡ []
-none_taken zero es e = refl
-none_taken (suc n) [] e = refl
-none_taken (suc n) (x ∷ es) e = absurd cc
-
 -- the first entries after a cursor are the first piece that is left
 pub first_piece : (h : Tables) (plans : List TablePlan) (place : ℕ) (cursor after : Option Place) (plan : TablePlan) (piece : List Entry) → place < length plans → slice_get plans place ≡ Some plan → IsReached h place cursor plans
     → 0 < length piece → piece ≡ take chunk_size (after_place cursor (entries_in h plan)) → after ≡ cursor_after cursor piece → IsFirst h plans (remaining_from h place cursor plans) place after piece
@@ -83,7 +79,7 @@ first_piece h plans place cursor after plan piece lt at reached some is moved = 
     rest = after_place cursor (entries_in h plan)
 
     none : rest ≢ []
-    none e = let l : length piece ≡ 0 = ap length (is ∙ none_taken chunk_size rest e) in omega (arith, l, some)
+    none e = let l : length piece ≡ 0 = ap length (is ∙ take-none chunk_size rest e) in omega (arith, l, some)
 
     follows : after_place after (entries_in h plan) ≡ drop chunk_size rest
     follows = ap (λ (c : Option Place). after_place c (entries_in h plan)) (moved ∙ ap (cursor_after cursor) is) ∙ pieces-whole.follows h plan.id plan.plan chunk_size (reached plan at).0 rest cursor (reached plan at).1 refl

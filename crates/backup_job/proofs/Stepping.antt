@@ -22,7 +22,8 @@ use Rattle.backup_job.specs.declared.pieces.Piece.{Piece}
 use Rattle.backup_job.specs.Searches.{IsNext}
 use Rattle.backup_job.specs.Units.{Finishes, IsFirst, IsLast, Steps, TakesFirst, UnitWrites, WritesChunk, with_chunk, with_info}
 use Rattle.backup_job.proofs.Disks.{nothing_finished, nothing_written}
-use Rattle.backup_job.proofs.Parts.{count_each, count_few, count_more, with_each-first, with_each-none}
+use Rattle.backup_job.proofs.Parts.{count_each, count_more, with_each-first, with_each-none}
+use Rattle.layer_manifest.proofs.FewChunks.{count_few}
 use Rattle.backup_job.proofs.Remaining.{length-remaining, row_first}
 
 -- ---- the number of the next chunk

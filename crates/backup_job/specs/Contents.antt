@@ -1,5 +1,5 @@
 -- What a layer's objects hold: the entries of each table cut into chunks, and the manifest that tells of them.
-use Rattle.std.specs.Prelude.{ℕ, zero, suc, Bool, true, false, List, [], ◌∷◌, ◌++◌, length, map, filter, take, drop, fold, sum_by, Option, Some, None, option_to_list, if◌then◌else◌}
+use Rattle.std.specs.Prelude.{ℕ, zero, suc, Bool, true, false, List, [], ◌∷◌, ◌++◌, length, map, filter, take, drop, fold, Option, Some, None, option_to_list, if◌then◌else◌}
 use Rattle.std.specs.List.{AllByRecursion, flat_map}
 use Rattle.std.specs.Ordering.{is_lt}
 use Rattle.sha2.specs.Sha256.{sha256}
@@ -16,13 +16,14 @@ use Rattle.span_export.specs.Plans.{plan_entries}
 use Rattle.introduced_spans.specs.declared.plans.LayerPlan.{LayerPlan}
 use Rattle.introduced_spans.specs.declared.plans.TablePlan.{TablePlan}
 use Rattle.chunk_file.specs.Chunks.{chunk_bytes}
-use Rattle.chunk_file.specs.Entries.{key_of}
+use Rattle.mvcc_keys.specs.Entries.{key_of, end_of}
 use Rattle.layer_manifest.specs.declared.manifest.ChunkInfo.{ChunkInfo}
 use Rattle.layer_manifest.specs.declared.manifest.TablePart.{TablePart}
 use Rattle.layer_manifest.specs.declared.manifest.Manifest.{Manifest}
 use Rattle.layer_manifest.specs.ManifestFiles.{manifest_code}
 use Rattle.layer_model.specs.declared.names.LayerName.{LayerName}
 use Rattle.layer_model.specs.Layers.{Layer}
+use Rattle.introduced_spans.specs.Spans.{layer_descriptors}
 
 -- ---- entries, cut into pieces
 
@@ -50,12 +51,6 @@ in_a_row tables = flat_map (λ (pieces : List (List Entry)). pieces) tables
 
 -- ---- what a manifest tells of a chunk
 
--- the greatest key that an entry names: a range's end, and otherwise its key
-abbrev pub end_of : Entry → List ℕ
-end_of (Entry.Put key at value) = key
-end_of (Entry.Del key at) = key
-end_of (Entry.Range lo hi at) = hi
-
 abbrev pub lesser : List ℕ → List ℕ → List ℕ
 lesser a b = if is_lt (bytes_cmp b a) then b else a
 
@@ -80,12 +75,6 @@ unfoldable pub info_of : List Entry → ChunkInfo
 info_of piece = record { entries = length piece; length = length (chunk_bytes piece); digest = sha256 (chunk_bytes piece); bounds = bounds_of piece }
 
 -- ---- tables of a manifest
-
--- With history the descriptor in force at the floor, where there is one, and those dated after the floor up to the end. Without history
--- the one in force at the end.
-abbrev pub layer_descriptors : Bool → Time → Time → List Schema → List Schema
-layer_descriptors true floor end ds = option_to_list (in_force ds floor) ++ filter (λ (d : Schema). is_between floor (At end) d.modified) ds
-layer_descriptors false floor end ds = option_to_list (in_force ds end)
 
 -- a table without chunks
 abbrev pub part_of : Schemas → Bool → Time → Time → TablePlan → TablePart
@@ -128,10 +117,3 @@ bare_manifest name history scope plan catalog = record {
 -- a layer of that name with this manifest, and with these pieces as its chunks
 abbrev pub layer_of : LayerName → Manifest → List (List Entry) → Layer
 layer_of name m pieces = record { name = name; manifest = manifest_code m; chunks = map chunk_bytes pieces }
-
--- how many entries the chunks of tables have
-abbrev pub chunk_entries : ChunkInfo → ℕ
-chunk_entries c = c.entries
-
-abbrev pub entry_count : List TablePart → ℕ
-entry_count tables = sum_by (λ (t : TablePart). sum_by chunk_entries t.chunks) tables

@@ -3,3 +3,4 @@ pub mod Jobs
 pub mod Units
 pub mod Searches
 pub mod Whole
+pub mod CutLaws

@@ -2,8 +2,8 @@
 ghost use Rattle.std.specs.Prelude.{◌≡◌, ◌≤◌, ◌++◌, ◌∷◌, [], length, IfOk, OnOk, OnErr};
 ghost use Rattle.sha2.specs.Sha256.{sha256};
 ghost use Rattle.chunk_file.specs.Chunks.{chunk_bytes};
-ghost use Rattle.chunk_file.specs.Entries.{key_of};
-ghost use Rattle.backup_job.specs.Contents.{bounds_of, chunk_size, end_of, greater, greatest_key, info_of, least_key, lesser};
+ghost use Rattle.mvcc_keys.specs.Entries.{key_of, end_of};
+ghost use Rattle.backup_job.specs.Contents.{bounds_of, chunk_size, greater, greatest_key, info_of, least_key, lesser};
 
 use chunk_file::write_chunk_bytes;
 use layer_manifest::ChunkInfo;
@@ -18,28 +18,6 @@ pub fn chunk_size() -> usize
     ensures few { result ≡ 256 }
 {
     256
-}
-
-/// The key of a put or of a deletion, the first key of a range.
-fn key_of(entry: &Entry) -> &[u8]
-    ensures { result.now ≡ key_of entry.now }
-{
-    match entry {
-        Entry::Put { key, .. } => key.as_slice(),
-        Entry::Del { key, .. } => key.as_slice(),
-        Entry::Range { lo, .. } => lo.as_slice(),
-    }
-}
-
-/// The key of a put or of a deletion, the end of a range.
-fn end_of(entry: &Entry) -> &[u8]
-    ensures { result.now ≡ end_of entry.now }
-{
-    match entry {
-        Entry::Put { key, .. } => key.as_slice(),
-        Entry::Del { key, .. } => key.as_slice(),
-        Entry::Range { hi, .. } => hi.as_slice(),
-    }
 }
 
 fn lesser<'a>(a: &'a [u8], b: &'a [u8]) -> &'a [u8]
@@ -60,7 +38,7 @@ fn least_key<'a>(key: &'a [u8], entries: &'a [Entry]) -> &'a [u8]
 {
     let mut least = key;
     for entry in entries {
-        least = lesser(least, key_of(entry));
+        least = lesser(least, entry.key());
     }
     least
 }
@@ -71,7 +49,7 @@ fn greatest_key<'a>(key: &'a [u8], entries: &'a [Entry]) -> &'a [u8]
 {
     let mut greatest = key;
     for entry in entries {
-        greatest = greater(greatest, end_of(entry));
+        greatest = greater(greatest, entry.end());
     }
     greatest
 }
@@ -89,8 +67,8 @@ fn bounds_of(alloc: Global, entries: &[Entry]) -> Result<Option<(Blob, Blob)>, M
     let Some((first, others)) = entries.split_first() else {
         return Ok(None);
     };
-    let least = least_key(key_of(first), others);
-    let greatest = greatest_key(end_of(first), others);
+    let least = least_key(first.key(), others);
+    let greatest = greatest_key(first.end(), others);
     let keys = copy_keys(alloc, least, greatest)?;
     Ok(Some(keys))
 }

@@ -142,6 +142,7 @@ impl BackupJob {
         ensures cause { DirHasCause (D.view disk.old).faults (D.view disk.new).faults result }
     {
         'units: loop {
+            // Not `?`, which would pass the fault through `From`, of which the clauses on faults say nothing.
             match self.unit(store, disk) {
                 Ok(Progress::Running) => {}
                 Ok(Progress::Done) => return Ok(()),

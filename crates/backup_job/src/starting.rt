@@ -6,7 +6,8 @@ ghost use Rattle.range_tombstones.specs.declared.upto.Upto.TheVariants.{At};
 ghost use Rattle.range_tombstones.specs.Intervals.{is_between};
 ghost use Rattle.history_model.specs.Histories.{in_force};
 ghost use Rattle.schema_catalog.specs.Catalogs.{history_of};
-ghost use Rattle.backup_job.specs.Contents.{AreProper, bare_manifest, layer_descriptors, part_of};
+ghost use Rattle.backup_job.specs.Contents.{AreProper, bare_manifest, part_of};
+ghost use Rattle.introduced_spans.specs.Spans.{layer_descriptors};
 
 use introduced_spans::{LayerPlan, TablePlan};
 use layer_manifest::{Manifest, TablePart};

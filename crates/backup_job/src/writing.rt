@@ -13,11 +13,10 @@ ghost use Rattle.backup_job.specs.Jobs.{written};
 ghost use Rattle.backup_job.specs.Units.{AtLayer, Finishes, WritesChunk, with_chunk, with_info};
 
 use crate::chunks::chunk_of;
-use crate::counts::chunk_count;
 use crate::pieces::Piece;
 use crate::{BackupJob, Progress};
 use collection_dir::{DirFault, finish_layer, write_chunk};
-use layer_manifest::{ChunkInfo, TablePart};
+use layer_manifest::{ChunkInfo, TablePart, chunk_count};
 use mvcc_keys::{Items, Memory};
 use outside_world::Disk;
 use std::alloc::Global;

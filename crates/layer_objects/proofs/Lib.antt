@@ -1,3 +1,4 @@
 pub mod Final
 pub mod Sizes
 pub mod Writable
+pub mod Names

@@ -1,5 +1,5 @@
 -- How many entries and chunks a table has, and how many bytes they take.
-use Rattle.std.proofs.Common.{◌≡◌, ℕ, zero, suc, ◌+◌, ◌*◌, ◌^◌, ◌<◌, ◌≤◌, ◌==◌, Bool, true, ◌&&◌, refl, ap, ◌∙◌, arith, List, [], ◌∷◌, length, drop, Option, Some, None, inl, inr, Ordering, Less, Equal, Greater}
+use Rattle.std.proofs.Common.{◌≡◌, ℕ, zero, suc, ◌+◌, ◌*◌, ◌^◌, ◌<◌, ◌≤◌, ◌==◌, true, refl, ap, ◌∙◌, arith, List, [], ◌∷◌, length, drop, Option, Some, None, inl, inr, Ordering, Less, Equal, Greater}
 use Rattle.std.specs.List.{AllByRecursion}
 use Rattle.std.proofs.lemmas.Bool.{cases_Bool, eq-eqb}
 use Rattle.std.proofs.lemmas.List.{length-append, length-map}
@@ -26,8 +26,9 @@ use Rattle.chunk_file.specs.Chunks.{chunk_bytes, head_code}
 use Rattle.chunk_file.specs.Entries.{IsStored, entries_code, entry_code, is_entry}
 use Rattle.chunk_file.proofs.EntryLaws.{mvcc-length}
 use Rattle.backup_job.specs.Contents.{cut, cut_times}
-use Rattle.backup_job.proofs.Ordered.{all_drop, all_take}
+use Rattle.list_laws.proofs.Members.{all-drop, all-take}
 use Rattle.layer_objects.specs.Storable.{IsSized}
+use Rattle.list_laws.proofs.Bools.{and-both}
 
 -- ---- numbers
 
@@ -86,7 +87,7 @@ cut-fewer n xs = times-fewer (length xs) n xs
 times-all : {X : Type 0} (P : X → Type 0) (times n : ℕ) (xs : List X) → AllByRecursion P xs → AllByRecursion (AllByRecursion P) (cut_times times n xs)
 times-all P zero n xs all = tt
 times-all P (suc times) n [] all = tt
-times-all P (suc times) n (x ∷ xs) all = (all_take P n (x ∷ xs) all, times-all P times n (drop n (x ∷ xs)) (all_drop P n (x ∷ xs) all))
+times-all P (suc times) n (x ∷ xs) all = (all-take P n (x ∷ xs) all, times-all P times n (drop n (x ∷ xs)) (all-drop P n (x ∷ xs) all))
 
 -- what holds of all elements holds of those of each piece
 pub cut-all : {X : Type 0} (P : X → Type 0) (n : ℕ) (xs : List X) → AllByRecursion P xs → AllByRecursion (AllByRecursion P) (cut n xs)
@@ -122,9 +123,6 @@ key-short id kinds key is =
 abbrev pub IsSmall : ℕ → List Kind → Entry → Type 0
 IsSmall id kinds e = (is_entry id kinds e ≡ true) × IsStored e × (length (entry_code e) ≤ 40000)
 
-both : (a b : Bool) → a ≡ true → b ≡ true → (a && b) ≡ true
-both a b p q = rw (p, q) refl
-
 put-small : (id : ℕ) (kinds : List Kind) (key : Key) (cells : Cells) (at : Time) → id < 2 ^ 32 → IsKey kinds key → IsCells cells → IsSized kinds (Put key cells at) → IsSmall id kinds (Entry.Put (row_key id kinds key) at (row_value cells))
 unfolding is_entry entry_code
 put-small id kinds key cells at small is are fit =
@@ -135,7 +133,7 @@ put-small id kinds key cells at small is are fit =
     let l = length-append (sized (mvcc_key (row_key id kinds key) at)) (sized (row_value cells)) in
     let columns = fit.0 in
     let value = fit.1 in (
-      both _ _ (ap (is_key_of id) (row_keys-exact.found kinds id key small is) ∙ eq-eqb id id refl) (ap reads (row_values-exact.found cells are.0 are.1)),
+      and-both _ _ (ap (is_key_of id) (row_keys-exact.found kinds id key small is) ∙ eq-eqb id id refl) (ap reads (row_values-exact.found cells are.0 are.1)),
       (fit.2, omega (arith, dated, bytes, columns), omega (arith, value)),
       omega (arith, dated, bytes, front, back, l, columns, value),
     )

@@ -6,11 +6,11 @@ use Rattle.std.specs.List.Sorted.{IsStrictlyIncreasing}
 use Rattle.std.proofs.lemmas.Bool.{eq-eqb}
 use Rattle.std.proofs.lemmas.Bool.Decides.{nat_tests}
 use Rattle.std.proofs.lemmas.List.{append-nil, length-map}
-use Rattle.std.proofs.lemmas.List.Filters.{length-filter_both, sum_by-filter_both}
+use Rattle.std.proofs.lemmas.List.Filters.{sum_by-filter_both}
 use Rattle.std.proofs.lemmas.List.FromFn.{length-range_with_len}
 use Rattle.std.proofs.lemmas.List.Sums.{sum_by-cons, sum_by-le-sum_by}
 use Rattle.std.proofs.lemmas.Option.{slice_get-get_or, slice_get-map, slice_get_within}
-use Rattle.mvcc_keys.specs.Times.{Time, time_le, time_lt, zero_time}
+use Rattle.mvcc_keys.specs.Times.{Time, time_le, time_lt, zero_time, time_eq}
 use Rattle.mvcc_keys.specs.declared.entries.Entry.{Entry}
 use Rattle.row_codec.specs.declared.rows.Kind.{Kind}
 use Rattle.row_codec.proofs.KeyLaws.{ok_is}
@@ -19,9 +19,11 @@ use Rattle.table_descriptors.specs.Descriptors.{IsProperSchema, Schema, key_kind
 use Rattle.table_descriptors.specs.Fields.{EachAfter}
 use Rattle.table_descriptors.proofs.FieldLaws.{whole-found}
 use Rattle.table_descriptors.proofs.ListLaws.{last-push}
-use Rattle.fact_model.specs.Facts.{Has, Put}
+use Rattle.mvcc_keys.proofs.TimeOrder.{le-refl, lt-le}
+use Rattle.fact_model.specs.Facts.{Put}
+use Rattle.list_laws.specs.Members.{Has}
+use Rattle.list_laws.proofs.Members.{all-weaker, AllByRecursion-has, has-AllByRecursion, map-has, reverse-has}
 use Rattle.fact_model.specs.Scans.{image}
-use Rattle.fact_model.proofs.Members.{AllByRecursion-has, has-AllByRecursion, map-has}
 use Rattle.fact_model.proofs.Scanned.{image-has, value-put}
 use Rattle.history_model.specs.Histories.{Table, accepted, in_force, schemas_of}
 use Rattle.history_model.specs.Layers.{Layer}
@@ -35,13 +37,13 @@ use Rattle.introduced_spans.specs.PlanLaws.{ascend_after, whole_at, IsKept}
 use Rattle.introduced_spans.specs.Publicity.{is_public, public_at}
 use Rattle.introduced_spans.specs.Spans.{descriptors_of, is_in_scope, layer_plan, plan_fault, plan_over, scope_ids, span_of, table_ids}
 use Rattle.introduced_spans.proofs.Fulls.{full-is-whole}
-use Rattle.introduced_spans.proofs.Lists.{all-both, all-each, all-filter, all-map, le-itself, lt-le, range-all}
+use Rattle.introduced_spans.proofs.Lists.{all-both, all-filter, all-map, range-all}
 use Rattle.introduced_spans.proofs.Standing.{plan-stands}
 use Rattle.chunk_file.specs.Chunks.{IsChunk, chunk_bytes}
 use Rattle.chunk_file.specs.Entries.{IsStored, entry_code, is_entry}
 use Rattle.layer_manifest.specs.declared.manifest.Manifest.{Manifest}
 use Rattle.layer_manifest.specs.declared.manifest.TablePart.{TablePart}
-use Rattle.layer_manifest.specs.Manifests.{IsNextTable, IsProperChunk, IsProperManifest, chunk_count, comes_after, is_next_descriptor, kinds_of, part_id, same_time}
+use Rattle.layer_manifest.specs.Manifests.{IsNextTable, IsProperChunk, IsProperManifest, chunk_count, comes_after, is_next_descriptor, kinds_of, part_id}
 use Rattle.layer_manifest.specs.ManifestFiles.{manifest_code, read_manifest}
 use Rattle.layer_manifest.proofs.ManifestLaws.{manifest-format}
 use Rattle.layer_manifest.proofs.Steps.{chunks_more}
@@ -49,13 +51,15 @@ use Rattle.backup_job.specs.Contents.{AreProper, chunk_size, in_a_row, info_of, 
 use Rattle.backup_job.specs.Jobs.{IsAbout, IsStillKept, Job, completed, entries_in, layer_to_write, left, remaining, started}
 use Rattle.backup_job.proofs.Keys.{infos_proper}
 use Rattle.backup_job.proofs.Ordered.{pieces_chunks}
-use Rattle.backup_job.proofs.Parts.{count_each, count_few}
+use Rattle.backup_job.proofs.Parts.{count_each}
+use Rattle.layer_manifest.proofs.FewChunks.{count_few}
 use Rattle.backup_job.proofs.Remaining.{all_left, length-remaining}
 use Rattle.backup_job.proofs.Starts.{bare_count, started_run}
 use Rattle.layer_objects.specs.Objects.{bare, by_id, covers, described, name_of, objects_of, plan_of, rows_of, table_facts, table_kinds, table_threshold}
 use Rattle.layer_objects.specs.Storable.{AreStorable, IsFull, IsSized, IsStorable, LayersMayBeWritten, ManifestsTell, job_of, manifest_of, older_or}
-use Rattle.layer_objects.proofs.Final.{no-table, reverse-has}
+use Rattle.layer_objects.proofs.Final.{no-table}
 use Rattle.layer_objects.proofs.Sizes.{IsSmall, chunk-short, coded-small, cut-all, cut-fewer, image-fewer}
+use Rattle.list_laws.proofs.Filters.{filter-fewer}
 
 -- ---- lists
 
@@ -66,9 +70,6 @@ find-has p x (y ∷ ys) e = by (p y) (find-has p x ys) e
     by : (b : Bool) → (find p ys ≡ Some x → Has x ys) → cond b (Some y) (find p ys) ≡ Some x → (x ≡ y) ⊎ Has x ys
     by true more e = inl (sym (let s : y ≡ x = cc in s))
     by false more e = inr (more e)
-
-length-filter : {X : Type 0} (p : X → Bool) (xs : List X) → length (filter p xs) ≤ length xs
-length-filter p xs = let both = length-filter_both p (λ x. not (p x)) (λ x. refl) xs in omega (arith, both)
 
 sum-filter : {X : Type 0} (p : X → Bool) (f : X → ℕ) (xs : List X) → sum_by f (filter p xs) ≤ sum_by f xs
 sum-filter p f xs = let both = sum_by-filter_both p (λ x. not (p x)) (λ x. refl) f xs in omega (arith, both)
@@ -155,12 +156,23 @@ few-ids : (tables : List Table) (scope : Scope) (end : Time) → length (shown-i
 unfolding scope_ids
 few-ids tables scope end =
     let D = schemas_of tables in
-    let a = length-filter (λ id. public_at (descriptors_of D id) end) (filter (is_in_scope D scope) (table_ids D)) in
-    let b = length-filter (is_in_scope D scope) (table_ids D) in
+    let a = filter-fewer (λ id. public_at (descriptors_of D id) end) (filter (is_in_scope D scope) (table_ids D)) in
+    let b = filter-fewer (is_in_scope D scope) (table_ids D) in
     let c = length-range_with_len 100 (length D) in
     let d = length-map tables (λ (t : Table). t.descriptors) in omega (arith, a, b, c, d)
 
 -- ---- storable tables
+
+-- the descriptors of each table ascend by their dates
+pub schemas-ascend : (tables : List Table) → AreStorable tables → AllByRecursion (λ ds. ascend_after zero_time ds ≡ true) (schemas_of tables)
+schemas-ascend tables storable = all-map (λ ds. ascend_after zero_time ds ≡ true) (λ (t : Table). t.descriptors) tables (each-place _ tables (λ i t got. (storable i t got).ascend))
+
+-- a full layer without history begins with the clock
+pub covers-full : (r : Layer) → IsFull r → covers r ≡ record { start = zero_time; end = r.end; floor = zero_time; history = false }
+covers-full r full =
+    ap (λ (s : Time). record { start = s; end = r.end; floor = r.floor; history = r.history }) full.start
+    ∙ (ap (λ (f : Time). record { start = zero_time; end = r.end; floor = f; history = r.history }) full.floor
+    ∙ ap (λ (b : Bool). record { start = zero_time; end = r.end; floor = zero_time; history = b }) full.history)
 
 module _ (tables : List Table) (storable : AreStorable tables) (few : 100 + length tables ≤ 2 ^ 32) (end : Time) where
   abbrev D : List (List Schema)
@@ -173,7 +185,7 @@ module _ (tables : List Table) (storable : AreStorable tables) (few : 100 + leng
   kinds id = by_id [] table_kinds tables id
 
   dated : AllByRecursion (λ ds. ascend_after zero_time ds ≡ true) D
-  dated = all-map (λ ds. ascend_after zero_time ds ≡ true) (λ (t : Table). t.descriptors) tables (each-place _ tables (λ i t got. (storable i t got).ascend))
+  dated = schemas-ascend tables storable
 
   -- ---- entries
 
@@ -209,11 +221,11 @@ module _ (tables : List Table) (storable : AreStorable tables) (few : 100 + leng
 
     infos-proper : AllByRecursion (IsProperChunk 2 id (kinds id)) (map info_of (pieces_of h (whole_at end id)))
     infos-proper =
-        let chunks = pieces_chunks h (kinds id) (whole_at end id) (all-each (IsSmall id (kinds id)) (λ e. is_entry id (kinds id) e ≡ true) (λ e s. s.0) _ entries-small) in
+        let chunks = pieces_chunks h (kinds id) (whole_at end id) (all-weaker (IsSmall id (kinds id)) (λ e. is_entry id (kinds id) e ≡ true) (λ e s. s.0) _ entries-small) in
         let smalls = cut-all (IsSmall id (kinds id)) chunk_size (entries_in h (whole_at end id)) entries-small in
         all-map (IsProperChunk 2 id (kinds id)) info_of (pieces_of h (whole_at end id))
-        (all-each (λ piece. IsChunk id (kinds id) piece × AllByRecursion (IsSmall id (kinds id)) piece) (λ piece. IsProperChunk 2 id (kinds id) (info_of piece))
-        (λ piece p. infos_proper id (kinds id) piece p.0 (all-each (IsSmall id (kinds id)) IsStored (λ e s. s.1) piece p.1) (chunk-short piece p.0.most (all-each (IsSmall id (kinds id)) (λ e. length (entry_code e) ≤ 40000) (λ e s. s.2) piece p.1)))
+        (all-weaker (λ piece. IsChunk id (kinds id) piece × AllByRecursion (IsSmall id (kinds id)) piece) (λ piece. IsProperChunk 2 id (kinds id) (info_of piece))
+        (λ piece p. infos_proper id (kinds id) piece p.0 (all-weaker (IsSmall id (kinds id)) IsStored (λ e s. s.1) piece p.1) (chunk-short piece p.0.most (all-weaker (IsSmall id (kinds id)) (λ e. length (entry_code e) ≤ 40000) (λ e s. s.2) piece p.1)))
         _ (all-both (IsChunk id (kinds id)) (AllByRecursion (IsSmall id (kinds id))) (pieces_of h (whole_at end id)) chunks smalls))
 
     -- ---- descriptors
@@ -322,10 +334,7 @@ module _ (tables : List Table) (r : Layer) (storable : AreStorable tables) (few 
   threshold = by_id zero_time table_threshold tables
 
   covers-is : covers r ≡ record { start = zero_time; end = r.end; floor = zero_time; history = false }
-  covers-is =
-      ap (λ (s : Time). record { start = s; end = r.end; floor = r.floor; history = r.history }) full.start
-      ∙ (ap (λ (f : Time). record { start = zero_time; end = r.end; floor = f; history = r.history }) full.floor
-      ∙ ap (λ (b : Bool). record { start = zero_time; end = r.end; floor = zero_time; history = b }) full.history)
+  covers-is = covers-full r full
 
   layer-plan-is : layer_plan (schemas_of tables) r.scope zero_time r.end false threshold ≡ whole
   layer-plan-is = (full-is-whole (schemas_of tables) r.scope r.end threshold (dated tables storable few r.end)).plan
@@ -349,7 +358,7 @@ module _ (tables : List Table) (r : Layer) (storable : AreStorable tables) (few 
       let a = subst (λ (s : Time). plan_fault (schemas_of tables) r.scope s r.end r.history threshold ≡ None) full.start fault in
       let b = subst (λ (b : Bool). plan_fault (schemas_of tables) r.scope zero_time r.end b threshold ≡ None) full.history a in
       let k = (plan-stands (schemas_of tables) r.scope zero_time r.end false threshold).kept b in
-      all-each (IsKept threshold) (IsStillKept store) (λ t is. is.export) whole.tables (subst (λ (p : LayerPlan). AllByRecursion (IsKept threshold) p.tables) layer-plan-is k)
+      all-weaker (IsKept threshold) (IsStillKept store) (λ t is. is.export) whole.tables (subst (λ (p : LayerPlan). AllByRecursion (IsKept threshold) p.tables) layer-plan-is k)
 
   proper : AreProper plain.manifest.tables → IsProperManifest (completed store plain)
   proper schemas = record {
@@ -361,9 +370,9 @@ module _ (tables : List Table) (r : Layer) (storable : AreStorable tables) (few 
     start = full.name.start;
     end = full.name.end;
     floor = (omega arith, omega arith);
-    ends = ap₂ (λ (s t : Time). time_lt s r.end && time_le t r.end) full.start full.full ∙ ap₂ (λ (a b : Bool). a && b) full.ends (le-itself r.end);
+    ends = ap₂ (λ (s t : Time). time_lt s r.end && time_le t r.end) full.start full.full ∙ ap₂ (λ (a b : Bool). a && b) full.ends (le-refl r.end);
     floors = ap (λ (s : Time). time_le s zero_time && time_le zero_time r.end) full.start ∙ lt-le zero_time r.end full.ends;
-    history = ap (same_time zero_time) full.start;
+    history = ap (time_eq zero_time) full.start;
     scope = full.scope;
     counted = let a = ap length plain-tables in let b = length-map ids (part tables storable few r.end) in let c = few-ids tables r.scope r.end in omega (arith, a, b, c, few);
     tables = subst (EachAfter (IsNextTable 2) []) (sym plain-tables) (each-next tables storable few r.end [] ids ready up (first ids) (let s = all-few tables storable few r.end r.scope in omega (arith, s, room)));
@@ -388,11 +397,11 @@ module _ (tables : List Table) (r : Layer) (storable : AreStorable tables) (few 
       let one = map-has (whole_at r.end) plan ids (subst (λ (p : LayerPlan). Has plan p.tables) plan-is has) in
       let is = has-AllByRecursion (IsPlanned tables r.end) one.0 ids (planned tables r.scope r.end) one.1 in
       subst (λ (q : TablePlan). AllByRecursion (λ (e : Entry). (is_entry q.id (by_id [] table_kinds tables q.id) e ≡ true) × IsStored e) (entries_in store q)) (sym one.2)
-      (all-each (IsSmall one.0 (by_id [] table_kinds tables one.0)) _ (λ e s. (s.0, s.1)) _ (entries-small tables storable few r.end one.0 is))
+      (all-weaker (IsSmall one.0 (by_id [] table_kinds tables one.0)) _ (λ e s. (s.0, s.1)) _ (entries-small tables storable few r.end one.0 is))
 
   pieces : AllByRecursion (λ (t : TablePart). kinds_of t.descriptors ≡ by_id [] table_kinds tables t.id) (completed store plain).tables
   pieces = subst (AllByRecursion (λ (t : TablePart). kinds_of t.descriptors ≡ by_id [] table_kinds tables t.id)) (sym plain-tables)
-      (all-map _ (part tables storable few r.end) ids (all-each (IsPlanned tables r.end) _ (same-kinds tables storable few r.end) ids (planned tables r.scope r.end)))
+      (all-map _ (part tables storable few r.end) ids (all-weaker (IsPlanned tables r.end) _ (same-kinds tables storable few r.end) ids (planned tables r.scope r.end)))
 
 pub layers-written : LayersMayBeWritten
 layers-written tables r storable few room full schemas fault =

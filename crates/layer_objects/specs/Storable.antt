@@ -6,7 +6,8 @@ use Rattle.mvcc_keys.specs.declared.entries.Entry.{Entry}
 use Rattle.row_codec.specs.declared.rows.Kind.{Kind}
 use Rattle.row_codec.specs.RowValues.{row_value}
 use Rattle.table_descriptors.specs.Descriptors.{IsProperSchema, Schema, key_kinds}
-use Rattle.fact_model.specs.Facts.{Del, DelRange, Has, Put}
+use Rattle.fact_model.specs.Facts.{Del, DelRange, Put}
+use Rattle.list_laws.specs.Members.{Has}
 use Rattle.history_model.specs.Histories.{Table, accepted, schemas_of}
 use Rattle.history_model.specs.Layers.{Layer}
 use Rattle.history_model.specs.Rows.{RowFact}

@@ -1,9 +1,10 @@
 //! What holds of every layer.
-ghost use Rattle.layer_objects.specs.Past.{LayersAreFinal};
+ghost use Rattle.layer_objects.specs.Past.{LayersAreFinal, PastChains};
 ghost use Rattle.layer_objects.specs.Storable.{LayersMayBeWritten, ManifestsTell};
 
-/// A law: what happens after the end of a layer without history doesn't change its objects, so a
-/// layer of a cluster can be told from the cluster's tables at any later time.
+/// A law: what happens after the end of a layer, and what is added to tables that are not public,
+/// does not change its objects, so a layer of a cluster can be told from the cluster's tables at any
+/// later time.
 pub fn layers_are_final()
     ensures { LayersAreFinal }
 {}
@@ -18,4 +19,9 @@ pub fn layers_may_be_written()
 /// knows all that the layer's record and tables tell, and how many chunks there are.
 pub fn manifests_tell()
     ensures { ManifestsTell }
+{}
+
+/// A law: what was kept up to a time stays kept by what comes later.
+pub fn past_chains()
+    ensures { PastChains }
 {}

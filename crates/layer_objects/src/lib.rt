@@ -4,4 +4,4 @@
 
 mod laws;
 
-pub use laws::{layers_are_final, layers_may_be_written, manifests_tell};
+pub use laws::{layers_are_final, layers_may_be_written, manifests_tell, past_chains};

@@ -1,20 +1,14 @@
 -- The bounds that a manifest tells of a piece are its least and its greatest key.
-use Rattle.std.proofs.Common.{◌≡◌, ◌⊎◌, inl, inr, Bool, true, false, not, ◌&&◌, ◌||◌, refl, sym, ap, ap₂, ◌∙◌, List, [], ◌∷◌, fold, is_eq, if◌then◌else◌}
+use Rattle.std.proofs.Common.{◌≡◌, ◌⊎◌, inl, inr, Bool, true, false, not, ◌&&◌, refl, sym, ap, ap₂, ◌∙◌, List, [], ◌∷◌, fold, is_eq, if◌then◌else◌}
 use Rattle.std.specs.List.{list_all, list_any}
 use Rattle.mvcc_keys.specs.declared.entries.Entry.{Entry}
 use Rattle.range_tombstones.specs.Ranges.{bytes_le, bytes_lt}
 use Rattle.range_tombstones.proofs.KeyLaws.{le-itself, le-trans, lt-le, not-lt, same-itself}
 use Rattle.version_store.specs.Tables.{Bytes, bytes_cmp}
-use Rattle.chunk_file.specs.Entries.{key_of}
-use Rattle.backup_job.specs.Contents.{bounds_of, end_of}
+use Rattle.mvcc_keys.specs.Entries.{key_of, end_of}
+use Rattle.backup_job.specs.Contents.{bounds_of}
 use Rattle.layer_rows.specs.Reading.{are_bounds}
-
-or-left : (a b : Bool) → a ≡ true → (a || b) ≡ true
-or-left a b e = rw e refl
-
-or-right : (a b : Bool) → b ≡ true → (a || b) ≡ true
-or-right true b e = refl
-or-right false b e = e
+use Rattle.list_laws.proofs.Bools.{or-left, or-right}
 
 -- the first of some keys, by an order
 module _ (key : Entry → Bytes) (lt le : Bytes → Bytes → Bool) (itself : (a : Bytes) → le a a ≡ true) (trans : (a b c : Bytes) → le a b ≡ true → le b c ≡ true → le a c ≡ true)

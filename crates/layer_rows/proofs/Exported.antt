@@ -1,5 +1,5 @@
 -- A whole table in bytes, and the scan of its rows.
-use Rattle.std.proofs.Common.{◌≡◌, ◌≢◌, ℕ, ◌<◌, ◌^◌, sym, refl, ap, ◌∙◌, subst, inl, inr, List, [], ◌∷◌, append-nil, map, Option, Some, None, Less}
+use Rattle.std.proofs.Common.{◌≡◌, ◌≢◌, ℕ, ◌<◌, ◌^◌, sym, refl, ap, ◌∙◌, subst, inl, inr, List, [], ◌∷◌, append-nil, map, Option, Some, Less}
 use Rattle.std.specs.List.{AllByRecursion}
 use Rattle.std.specs.List.Sorted.{IsStrictlySortedBy}
 use Rattle.std.specs.Ordering.{on, ordering_reverse}
@@ -8,22 +8,24 @@ use Rattle.row_codec.specs.declared.rows.Kind.{Kind}
 use Rattle.row_codec.specs.RowKeys.{row_key, IsKey}
 use Rattle.row_codec.specs.RowOrder.{row_cmp}
 use Rattle.row_codec.specs.RowValues.{row_value}
-use Rattle.row_codec.proofs.KeyLaws.{some_is}
-use Rattle.fact_model.specs.Facts.{Put, Del, DelRange, Has, Version, newest, value, version_of}
+use Rattle.fact_model.specs.Facts.{Put, Del, DelRange, newest, value}
+use Rattle.list_laws.specs.Members.{Has}
+use Rattle.list_laws.proofs.Members.{AllByRecursion-has}
 use Rattle.fact_model.specs.Mapped.{KeysMeet, map_item}
 use Rattle.fact_model.specs.Ordered.{ordered}
 use Rattle.fact_model.specs.Scans.{Item, image, keys_put, put_of, scan, version}
-use Rattle.fact_model.proofs.Members.{AllByRecursion-has}
-use Rattle.fact_model.proofs.Newest.{IsNewest, newest-is}
+use Rattle.fact_model.specs.Newest.{IsNewest}
+use Rattle.fact_model.proofs.Newest.{newest-is}
 use Rattle.fact_model.proofs.Orders.{ordered-has}
 use Rattle.fact_model.proofs.Scanned.{items-has, scan-is}
 use Rattle.fact_model.proofs.Transport.{scan-map}
-use Rattle.history_model.specs.Rows.{Key, Cells, RowFact, RowItem}
+use Rattle.history_model.specs.Rows.{Key, RowFact, RowItem}
 use Rattle.version_store.specs.Tables.{Bytes, bytes_cmp, entries_of}
 use Rattle.version_store.proofs.Bytes.{bytes_order}
 use Rattle.span_export.specs.Plans.{plan_entries}
-use Rattle.table_rows.specs.RowTables.{AreRowFacts, IsCells, IsRowFact, coded}
+use Rattle.table_rows.specs.RowTables.{AreRowFacts, IsRowFact, coded}
 use Rattle.table_rows.proofs.Coded.{keys-ordered}
+use Rattle.table_rows.proofs.Shown.{version-cells}
 use Rattle.layer_rows.specs.Putting.{DifferInKey, IsItem, ScansAreStored, stored_put}
 
 -- ---- what a scan has
@@ -36,18 +38,12 @@ key-good kinds (Put q v at ∷ fs) all k (inr has) = key-good kinds fs (λ f h. 
 key-good kinds (Del q at ∷ fs) all k has = key-good kinds fs (λ f h. all f (inr h)) k has
 key-good kinds (DelRange lo hi at ∷ fs) all k has = key-good kinds fs (λ f h. all f (inr h)) k has
 
-cells-good : (kinds : List Kind) (r : Option RowFact) (v : Version Cells) → ((f : RowFact) → r ≡ Some f → IsRowFact kinds f) → version_of r ≡ Some v → IsCells v.value
-cells-good kinds None v all e = cc e
-cells-good kinds (Some (Put q w at)) v all e = subst (λ (x : Version Cells). IsCells x.value) (some_is _ _ e) (all (Put q w at) refl).1
-cells-good kinds (Some (Del q at)) v all e = cc e
-cells-good kinds (Some (DelRange lo hi at)) v all e = cc e
-
 item-good : (kinds : List Kind) (t : Time) (fs : List RowFact) → AreRowFacts kinds fs → (i : RowItem) → Has i (scan (row_cmp kinds) t fs) → IsItem kinds i
 unfolding scan value
 item-good kinds t fs all i has =
     let found = items-has (λ k. value (row_cmp kinds) k t fs) i (ordered (row_cmp kinds) (keys_put fs)) has in
     let among : (f : RowFact) → newest (row_cmp kinds) i.key t fs ≡ Some f → Has f fs = λ f e. (subst (λ (r : Option RowFact). IsNewest (row_cmp kinds) i.key t fs r) e (newest-is (row_cmp kinds) i.key t fs)).among in
-    (key-good kinds fs all i.key (ordered-has (row_cmp kinds) i.key (keys_put fs) found.0), cells-good kinds (newest (row_cmp kinds) i.key t fs) (version i) (λ f e. all f (among f e)) found.1)
+    (key-good kinds fs all i.key (ordered-has (row_cmp kinds) i.key (keys_put fs) found.0), version-cells kinds (newest (row_cmp kinds) i.key t fs) (version i) (λ f e. all f (among f e)) found.1)
 
 -- ---- through bytes
 

@@ -10,8 +10,9 @@ use Rattle.row_codec.specs.declared.rows.Kind.{Kind}
 use Rattle.row_codec.specs.RowKeys.{row_key, values_code, IsKey}
 use Rattle.row_codec.specs.RowOrder.{row_cmp}
 use Rattle.row_codec.specs.RowValues.{row_value}
-use Rattle.fact_model.specs.Facts.{Put, Has, touches}
-use Rattle.fact_model.proofs.Members.{has-AllByRecursion, map-has}
+use Rattle.fact_model.specs.Facts.{Put, touches}
+use Rattle.list_laws.specs.Members.{Has}
+use Rattle.list_laws.proofs.Members.{has-AllByRecursion, map-has}
 use Rattle.history_model.specs.Rows.{Key, Cells, RowFact, RowItem}
 use Rattle.version_store.specs.Tables.{Tables}
 use Rattle.table_rows.specs.RowTables.{HasFront, HasRows, IsCells, MayAdd, RowTables, with_facts}

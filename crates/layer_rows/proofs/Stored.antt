@@ -1,5 +1,5 @@
 -- Pieces that are stored are what is read, chunk after chunk.
-use Rattle.std.proofs.Common.{◌≡◌, ℕ, suc, ◌+◌, ◌<◌, ◌≤◌, Bool, true, false, ◌&&◌, refl, sym, ap, ap₂, ◌∙◌, subst, arith, List, [], ◌∷◌, ◌++◌, append-nil, append_assoc, length, map, take, drop, get_or, Option, Some, None, option_map, Result, Ok, Err, IfOk, IfErr, Less}
+use Rattle.std.proofs.Common.{◌≡◌, ℕ, suc, ◌+◌, ◌<◌, ◌≤◌, Bool, true, false, ◌&&◌, refl, sym, ap, ap₂, ◌∙◌, subst, arith, List, [], ◌∷◌, ◌++◌, append-nil, append_assoc, length, map, take, drop, get_or, Option, Some, None, option_map, Result, Ok, Err, IfOk, IfErr}
 use Rattle.std.specs.Global.{Vec}
 use Rattle.std.specs.List.{AllByRecursion, slice_get}
 use Rattle.std.specs.Str.{bytes_eq}
@@ -9,16 +9,17 @@ use Rattle.std.proofs.lemmas.List.Sums.{sum_by-append, sum_by-cons}
 use Rattle.std.proofs.lemmas.Slice.Eq.{bytes_eq-Decides}
 use Rattle.std.specs.Prelude.{if◌then◌else◌}
 use Rattle.sha2.specs.Sha256.{sha256}
-use Rattle.key_encoding.specs.Coding.{AreBytes}
+use Rattle.list_laws.specs.Bytes.{AreBytes}
+use Rattle.list_laws.proofs.Members.{all-append}
+use Rattle.introduced_spans.proofs.Lists.{all-both}
 use Rattle.row_codec.proofs.KeyLaws.{ok_is}
 use Rattle.mvcc_keys.specs.declared.entries.Entry.{Entry}
 use Rattle.row_codec.specs.declared.rows.Kind.{Kind}
-use Rattle.std.specs.List.Sorted.{IsStrictlySortedBy}
 use Rattle.version_store.specs.Tables.{Tables}
 use Rattle.span_export.specs.declared.plan.Plan.{Plan}
 use Rattle.span_export.specs.Plans.{plan_entries}
-use Rattle.span_export.proofs.EntryOrder.{after-later, order, plan-sorted}
-use Rattle.span_export.specs.Pieces.{cursor_after, is_after, is_left, joined, place_of}
+use Rattle.span_export.proofs.EntryOrder.{plan-sorted}
+use Rattle.span_export.specs.Pieces.{cursor_after, is_left, joined, place_of}
 use Rattle.chunk_file.specs.Chunks.{IsChunk, chunk_bytes, head_code, read_chunk}
 use Rattle.chunk_file.specs.Entries.{IsStored, are_ordered, comes_before, is_entry, may_follow}
 use Rattle.chunk_file.proofs.ChunkLaws.{chunks-exact}
@@ -34,42 +35,20 @@ use Rattle.collection_dir.specs.declared.fault.DirFault.{DirFault}
 use Rattle.collection_dir.specs.declared.fault.DirFault.TheVariants.{Failed, Memory, Damaged, Malformed, LayerDiffers}
 use Rattle.collection_dir.specs.Faults.{IsDiskFault}
 use Rattle.backup_job.specs.Contents.{info_of}
-use Rattle.backup_job.proofs.Parts.{count_few}
+use Rattle.backup_job.proofs.Ordered.{comes_is, ordered_all}
+use Rattle.layer_manifest.proofs.FewChunks.{count_few}
 use Rattle.layer_rows.specs.Reading.{AreEntriesOf, AreStoredAt, ChunkAnswers, TableAnswers, after_chunk, follows, held, is_told, or_malformed, read_told, stored_table, tested, with_chunk, with_chunks}
 use Rattle.layer_rows.proofs.Bounds.{bounds-told}
 
 -- ---- order
 
--- the order of a chunk is that of exports
-comes-is : (d e : Entry) → comes_before d e ≡ is_after (place_of d) e
-unfolding comes_before
-comes-is (Entry.Put k t v) (Entry.Put q s w) = refl
-comes-is (Entry.Put k t v) (Entry.Del q s) = refl
-comes-is (Entry.Put k t v) (Entry.Range lo hi s) = refl
-comes-is (Entry.Del k t) (Entry.Put q s w) = refl
-comes-is (Entry.Del k t) (Entry.Del q s) = refl
-comes-is (Entry.Del k t) (Entry.Range lo hi s) = refl
-comes-is (Entry.Range lo hi t) (Entry.Put q s w) = refl
-comes-is (Entry.Range lo hi t) (Entry.Del q s) = refl
-comes-is (Entry.Range lo hi t) (Entry.Range lo' hi' s) = refl
-
-sorted-after : (d : Entry) (es : List Entry) → AllByRecursion (λ e. order d e ≡ Less) es → IsStrictlySortedBy order es → are_ordered (Some d) es ≡ true
-unfolding IsStrictlySortedBy
-sorted-after d [] above up = refl
-sorted-after d (e ∷ es) above up = ap₂ (λ (a b : Bool). a && b) (comes-is d e ∙ after-later d e above.0) (sorted-after e es up.0 up.1)
-
-sorted-ordered : (es : List Entry) → IsStrictlySortedBy order es → are_ordered None es ≡ true
-unfolding IsStrictlySortedBy
-sorted-ordered [] up = refl
-sorted-ordered (e ∷ es) up = sorted-after e es up.0 up.1
-
 -- so the entries of a plan are in order
 pub plan-ordered : (h : Tables) (table : ℕ) (plan : Plan) → are_ordered None (plan_entries h table plan) ≡ true
-plan-ordered h table plan = sorted-ordered (plan_entries h table plan) (plan-sorted h table plan)
+plan-ordered h table plan = ordered_all (plan_entries h table plan) (plan-sorted h table plan)
 
 next-left : (k : Option Entry) (xs : List Entry) (e : Entry) (es : List Entry) → are_ordered k (xs ++ e ∷ es) ≡ true → is_left (cursor_after (option_map place_of k) xs) e ≡ true
 next-left None [] e es up = refl
-next-left (Some d) [] e es up = sym (comes-is d e) ∙ (and_parts (comes_before d e) (are_ordered (Some e) es) up).0
+next-left (Some d) [] e es up = sym (comes_is d e) ∙ (and_parts (comes_before d e) (are_ordered (Some e) es) up).0
 next-left k (x ∷ xs) e es up = next-left (Some x) xs e es (and_parts (may_follow k x) (are_ordered (Some x) (xs ++ e ∷ es)) up).1
 
 piece-follows : (before piece more : List Entry) → are_ordered None (before ++ (piece ++ more)) ≡ true → follows before piece ≡ true
@@ -79,7 +58,7 @@ piece-follows before (e ∷ es) more up = next-left None before e (es ++ more) u
 -- and the other way
 next-right : (k : Option Entry) (xs : List Entry) (e : Entry) (es : List Entry) → is_left (cursor_after (option_map place_of k) xs) e ≡ true → are_ordered k xs ≡ true → are_ordered (Some e) es ≡ true → are_ordered k (xs ++ e ∷ es) ≡ true
 next-right None [] e es after up more = more
-next-right (Some d) [] e es after up more = ap₂ (λ (a b : Bool). a && b) (comes-is d e ∙ after) more
+next-right (Some d) [] e es after up more = ap₂ (λ (a b : Bool). a && b) (comes_is d e ∙ after) more
 next-right k (x ∷ xs) e es after up more = let parts = and_parts (may_follow k x) (are_ordered (Some x) xs) up in ap₂ (λ (a b : Bool). a && b) parts.0 (next-right (Some x) xs e es after parts.1 more)
 
 joined-ordered : (before piece : List Entry) → are_ordered None before ≡ true → follows before piece ≡ true → are_ordered None piece ≡ true → are_ordered None (before ++ piece) ≡ true
@@ -143,14 +122,6 @@ module _ (layer : LayerName) (table : ℕ) (kinds : List Kind) (objects : Object
       ∙ (sym (ap (after_chunk (rest_of n (drop (i + 1) infos))) found) ∙ (sym (chunks-next n before infos i info lt is) ∙ so_far))
 
 -- ---- what is read, whatever the disk tells
-
-all-append : (P : Entry → Type 0) (xs ys : List Entry) → AllByRecursion P xs → AllByRecursion P ys → AllByRecursion P (xs ++ ys)
-all-append P [] ys a b = b
-all-append P (x ∷ xs) ys a b = (a.0, all-append P xs ys a.1 b)
-
-all-both : (P Q : Entry → Type 0) (xs : List Entry) → AllByRecursion P xs → AllByRecursion Q xs → AllByRecursion (λ e. P e × Q e) xs
-all-both P Q [] a b = tt
-all-both P Q (x ∷ xs) a b = ((a.0, b.0), all-both P Q xs a.1 b.1)
 
 pub typed-more : (table : ℕ) (kinds : List Kind) (info : ChunkInfo) (before entries : List Entry) (b : List ℕ) → AreBytes b → read_told table kinds info before b ≡ Ok entries → AreEntriesOf table kinds before → AreEntriesOf table kinds entries
 unfolding read_told

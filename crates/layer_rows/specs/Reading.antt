@@ -11,7 +11,8 @@ use Rattle.row_codec.specs.declared.rows.Kind.{Kind}
 use Rattle.version_store.specs.Tables.{bytes_cmp}
 use Rattle.span_export.specs.Pieces.{cursor_after, is_left, joined}
 use Rattle.chunk_file.specs.Chunks.{IsChunk, chunk_bytes, head_code, read_chunk}
-use Rattle.chunk_file.specs.Entries.{IsStored, are_ordered, is_entry, key_of}
+use Rattle.chunk_file.specs.Entries.{IsStored, are_ordered, is_entry}
+use Rattle.mvcc_keys.specs.Entries.{key_of, end_of}
 use Rattle.outside_world.specs.Objects.{Objects, at}
 use Rattle.layer_manifest.specs.declared.manifest.ChunkInfo.{ChunkInfo}
 use Rattle.layer_manifest.specs.declared.manifest.TablePart.{TablePart}
@@ -20,7 +21,7 @@ use Rattle.layer_model.specs.declared.names.Part.TheVariants.{Chunk}
 use Rattle.layer_model.specs.Names.{object_name}
 use Rattle.collection_dir.specs.declared.fault.DirFault.{DirFault}
 use Rattle.collection_dir.specs.declared.fault.DirFault.TheVariants.{Failed, Memory, Damaged, Malformed, LayerDiffers}
-use Rattle.backup_job.specs.Contents.{end_of, info_of}
+use Rattle.backup_job.specs.Contents.{info_of}
 
 -- ---- what the manifest tells of a chunk
 

@@ -1,8 +1,8 @@
 //! The test of a chunk's bytes by what the manifest tells of them.
 ghost use Rattle.std.specs.Prelude.{◌≡◌, length, IfOk};
 ghost use Rattle.chunk_file.specs.Chunks.{head_code};
-ghost use Rattle.chunk_file.specs.Entries.{key_of, seen};
-ghost use Rattle.backup_job.specs.Contents.{end_of};
+ghost use Rattle.chunk_file.specs.Entries.{seen};
+ghost use Rattle.mvcc_keys.specs.Entries.{key_of, end_of};
 ghost use Rattle.layer_rows.specs.Reading.{ChunkAnswers, are_bounds, begins_at, ends_at, follows, is_told, none_above, none_below, read_told};
 
 use chunk_file::ChunkView;
@@ -12,50 +12,28 @@ use row_codec::Kind;
 use span_export::Cursor;
 use std::alloc::Global;
 
-/// The key of a put or of a deletion, the first key of a range.
-fn key_of(entry: &Entry) -> &[u8]
-    ensures { result.now ≡ key_of entry.now }
-{
-    match entry {
-        Entry::Put { key, .. } => key.as_slice(),
-        Entry::Del { key, .. } => key.as_slice(),
-        Entry::Range { lo, .. } => lo.as_slice(),
-    }
-}
-
-/// The key of a put or of a deletion, the end of a range.
-fn end_of(entry: &Entry) -> &[u8]
-    ensures { result.now ≡ end_of entry.now }
-{
-    match entry {
-        Entry::Put { key, .. } => key.as_slice(),
-        Entry::Del { key, .. } => key.as_slice(),
-        Entry::Range { hi, .. } => hi.as_slice(),
-    }
-}
-
 fn none_below(key: &[u8], entries: &[Entry]) -> bool
     ensures { result ≡ none_below key.now entries.now }
 {
-    entries.iter().all(|e| key.cmp(key_of(e)).is_le())
+    entries.iter().all(|e| key.cmp(e.key()).is_le())
 }
 
 fn begins_at(key: &[u8], entries: &[Entry]) -> bool
     ensures { result ≡ begins_at key.now entries.now }
 {
-    entries.iter().any(|e| key_of(e).cmp(key).is_eq())
+    entries.iter().any(|e| e.key().cmp(key).is_eq())
 }
 
 fn none_above(key: &[u8], entries: &[Entry]) -> bool
     ensures { result ≡ none_above key.now entries.now }
 {
-    entries.iter().all(|e| end_of(e).cmp(key).is_le())
+    entries.iter().all(|e| e.end().cmp(key).is_le())
 }
 
 fn ends_at(key: &[u8], entries: &[Entry]) -> bool
     ensures { result ≡ ends_at key.now entries.now }
 {
-    entries.iter().any(|e| end_of(e).cmp(key).is_eq())
+    entries.iter().any(|e| e.end().cmp(key).is_eq())
 }
 
 fn are_bounds(bounds: &Option<(Blob, Blob)>, entries: &[Entry]) -> bool
@@ -90,7 +68,7 @@ fn follows(alloc: Global, before: &[Entry], entries: &[Entry]) -> Result<bool, M
     Ok(cursor.is_before(first))
 }
 
-fn owned(alloc: Global, entry: &EntryView<'_>) -> Result<Entry, Memory>
+fn copy_entry(alloc: Global, entry: &EntryView<'_>) -> Result<Entry, Memory>
     ensures { IfOk result (λ e. e ≡ seen entry.now) }
 {
     match *entry {
@@ -112,12 +90,12 @@ fn owned(alloc: Global, entry: &EntryView<'_>) -> Result<Entry, Memory>
 }
 
 /// The entries of a chunk, copied.
-fn owned_entries(alloc: Global, chunk: &ChunkView<'_>) -> Result<Vec<Entry>, Memory>
+fn copy_entries(alloc: Global, chunk: &ChunkView<'_>) -> Result<Vec<Entry>, Memory>
     ensures { IfOk result (λ v. v.items ≡ chunk.now) }
 {
     let mut entries = Vec::new(alloc);
     for entry in chunk.entries() {
-        entries.push(owned(alloc, &entry)?)?;
+        entries.push(copy_entry(alloc, &entry)?)?;
     }
     Ok(entries)
 }
@@ -148,7 +126,7 @@ pub(crate) fn add_entries(
         Ok(chunk) => chunk,
         Err(fault) => return Ok(Some(fault.offset)),
     };
-    let mut found = owned_entries(alloc, &chunk)?;
+    let mut found = copy_entries(alloc, &chunk)?;
     if !is_told(info, bytes.len(), &found) {
         return Ok(Some(4));
     }

@@ -1,5 +1,5 @@
 //! What holds of stored rows.
-ghost use Rattle.key_encoding.specs.Coding.{AreBytes};
+ghost use Rattle.list_laws.specs.Bytes.{AreBytes};
 ghost use Rattle.layer_rows.specs.Putting.{ScansAreStored};
 
 /// A law: a whole table is exported as the stored puts of its scan, whose keys differ.

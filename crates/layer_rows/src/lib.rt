@@ -9,6 +9,3 @@ mod reading;
 pub use laws::{are_bytes, scans_are_stored};
 pub use putting::{RestoreFault, put_rows};
 pub use reading::read_table;
-
-#[cfg(test)]
-mod tests;

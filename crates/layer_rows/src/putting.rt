@@ -84,6 +84,7 @@ pub fn put_rows<V: Versions>(
     ensures unmapped { IfErr result (λ e. AllByRecursion (IsMapped ids.now) entries.now → e ≡ no_memory) }
 {
     for entry in entries {
+        // Not `?`, which would pass the fault through `From`, of which the clauses on faults say nothing.
         match put_entry(alloc, rows, ids, entry, at) {
             Ok(()) => {}
             Err(fault) => return Err(fault),

@@ -15,7 +15,7 @@ ghost use Rattle.layer_rows.specs.Reading.{Answers, AreEntriesOf, AreStoredAt, I
 use crate::chunks::add_entries;
 use crate::laws::are_bytes;
 use collection_dir::{DirFault, read_chunk};
-use layer_manifest::{ChunkInfo, Manifest, TablePart};
+use layer_manifest::{ChunkInfo, Manifest, TablePart, chunk_count};
 use layer_model::{LayerName, Part, part_name};
 use mvcc_keys::{Entry, Memory};
 use outside_world::Disk;
@@ -65,18 +65,6 @@ fn add_chunk<D: Disk>(
     }
 }
 
-/// How many chunks tables have.
-fn chunk_count(tables: &[TablePart]) -> u32
-    requires { chunk_count tables.now ≤ 1000000 }
-    ensures { result ≡ chunk_count tables.now }
-{
-    let mut count = 0u32;
-    for table in tables {
-        count += table.chunks.as_slice().len() as u32;
-    }
-    count
-}
-
 /// The entries of a table whose chunks have the numbers from `first` on.
 #[tactic(auto, unfolding(crate::specs::Reading::stored_table))]
 fn read_chunks<D: Disk>(
@@ -98,6 +86,7 @@ fn read_chunks<D: Disk>(
     let mut entries = Vec::new(alloc);
     for i in 0..chunks.len() {
         let number = first + i as u32;
+        // Not `?`, which would pass the fault through `From`, of which the clauses on faults say nothing.
         match add_chunk(
             alloc,
             disk,

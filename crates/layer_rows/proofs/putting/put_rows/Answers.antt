@@ -1,7 +1,7 @@
 use Rattle.std.proofs.Common.{List, sym, subst}
 use Rattle.std.specs.List.{AllByRecursion}
 use Rattle.mvcc_keys.specs.declared.entries.Entry.{Entry}
-use Rattle.fact_model.proofs.Members.{has-AllByRecursion}
+use Rattle.list_laws.proofs.Members.{has-AllByRecursion}
 use Rattle.table_rows.proofs.Lists.{has-at}
 use Rattle.layer_rows.specs.Putting.{IsMapped}
 use Rattle.layer_rows.proofs.Renewed.{MayPut, all-mapped, all-put, front-put, next-put, none-put}

@@ -1,5 +1,5 @@
 use Rattle.std.proofs.Common.{◌∙◌, sym, subst}
-use Rattle.key_encoding.specs.Coding.{AreBytes}
+use Rattle.list_laws.specs.Bytes.{AreBytes}
 use Rattle.layer_rows.proofs.Stored.{none-wrong, typed-more}
 use Rattle.layer_rows.proofs.reading.add_chunk.Goals as goal
 
