@@ -183,15 +183,15 @@ backup_tables = do
   at ← asof
   ending (ts, c, at)
 
-abbrev pub restore_named : List ℕ → Src → List ℕ → Option Time → Form (List ℕ × Src × List ℕ × Option Time × Option (List ℕ))
-restore_named d s c at = do
+abbrev pub restore_with : List ℕ → Src → List ℕ → Option Time → Form (List ℕ × Src × List ℕ × Option Time × Option (List ℕ))
+restore_with d s c at = do
   new ← restore_options
   ending (d, s, c, at, new)
 
 abbrev pub restore_at : List ℕ → Src → List ℕ → Form (List ℕ × Src × List ℕ × Option Time × Option (List ℕ))
 restore_at d s c = do
   at ← asof
-  restore_named d s c at
+  restore_with d s c at
 
 -- RESTORE DATABASE name FROM src IN coll [AS OF SYSTEM TIME time] [WITH options]
 unfoldable pub restore_database : Form (List ℕ × Src × List ℕ × Option Time × Option (List ℕ))

@@ -2,7 +2,7 @@
 ghost use Rattle.std.specs.Prelude.{◌≡◌, []};
 ghost use Rattle.script_grammar.specs.Grammar.{Gives, ◌making◌};
 ghost use Rattle.command_lang.specs.declared.command.Command.TheVariants.{BackupDatabase, BackupTables, RestoreDatabase, Forget, ShowBackups};
-ghost use Rattle.command_lang.specs.Forms.{backup_database, backup_tables, restore_named, restore_at, restore_database, forget_to, forget_layer, forget, show_backups, layer_command};
+ghost use Rattle.command_lang.specs.Forms.{backup_database, backup_tables, restore_with, restore_at, restore_database, forget_to, forget_layer, forget, show_backups, layer_command};
 
 use crate::{Command, Tbl};
 use mvcc_keys::{Hlc, Items};
@@ -49,7 +49,7 @@ fn backup_tables(alloc: Global, tokens: &[Token]) -> Result<TablesIn, Broken>
 /// A database, a backup and its collection, a time, and the new name of the database.
 type Restored = (Name, Src, Name, Option<Hlc>, Option<Name>);
 
-fn restore_named(
+fn restore_with(
     alloc: Global,
     database: Name,
     source: Src,
@@ -57,7 +57,7 @@ fn restore_named(
     at: Option<Hlc>,
     tokens: &[Token],
 ) -> Result<Restored, Broken>
-    ensures { Gives (λ x. x) (λ x. []) result ((restore_named database source collection at).read tokens.now) }
+    ensures { Gives (λ x. x) (λ x. []) result ((restore_with database source collection at).read tokens.now) }
 {
     match restore_options(alloc, tokens) {
         Ok((new_name, rest)) => ending((database, source, collection, at, new_name), rest),
@@ -75,7 +75,7 @@ fn restore_at(
     ensures { Gives (λ x. x) (λ x. []) result ((restore_at database source collection).read tokens.now) }
 {
     match asof(tokens) {
-        Ok((at, rest)) => restore_named(alloc, database, source, collection, at, rest),
+        Ok((at, rest)) => restore_with(alloc, database, source, collection, at, rest),
         Err(broken) => Err(broken),
     }
 }

@@ -6,15 +6,12 @@ mod faults;
 mod forms;
 mod laws;
 mod layer_forms;
+mod limits;
 mod reading;
 
 pub use command::{Command, Tbl};
 pub use faults::LineFault;
 pub use laws::{forms_are_exact, readings_are_exact};
+pub use limits::LINE_BYTES_MAX;
 pub use reading::parse_line;
 pub use script_grammar::Src;
-
-#[cfg(test)]
-mod layer_tests;
-#[cfg(test)]
-mod tests;

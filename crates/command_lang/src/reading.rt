@@ -1,15 +1,16 @@
 //! What a line reads as.
 ghost use Rattle.std.specs.Prelude.{◌≡◌, ◌-◌, ◌+◌, ◌≤◌, length, get_or};
-ghost use Rattle.command_lang.specs.Lines.{reading, unblanked, is_skipped_text, column_of, ReadsAs};
+ghost use Rattle.command_lang.specs.declared.limits.TheConstants.{LINE_BYTES_MAX};
+ghost use Rattle.command_lang.specs.Lines.{reading, after_blanks, is_skipped_text, column_of, ReadsAs};
 
 use crate::forms::command;
-use crate::{Command, LineFault};
+use crate::{Command, LINE_BYTES_MAX, LineFault};
 use script_grammar::{Broken, is_blank, tokens};
 use std::alloc::Global;
 
 /// What follows the blanks at the front.
-fn unblanked(line: &[u8]) -> &[u8]
-    ensures { result.now ≡ unblanked line.now }
+fn after_blanks(line: &[u8]) -> &[u8]
+    ensures { result.now ≡ after_blanks line.now }
 {
     let mut rest = line;
     'blanks: while !rest.is_empty() {
@@ -34,7 +35,7 @@ fn is_skipped_text(text: &[u8]) -> bool
 
 /// The place at which a line breaks off, where so many tokens are left.
 fn column_of(places: &[usize], left: usize, len: usize) -> usize
-    requires { len ≤ 65536 }
+    requires { len ≤ LINE_BYTES_MAX }
     ensures { result ≡ column_of places.now left len }
 {
     match places.get(places.len().saturating_sub(left)) {
@@ -49,10 +50,12 @@ fn column_of(places: &[usize], left: usize, len: usize) -> usize
 pub fn parse_line(alloc: Global, line: &[u8], first: bool) -> Result<Option<Command>, LineFault>
     ensures { ReadsAs result (reading first line.now) }
 {
-    if line.len() > 65536 {
-        return Err(LineFault::Wrong { column: 65537 });
+    if line.len() > LINE_BYTES_MAX {
+        return Err(LineFault::Wrong {
+            column: LINE_BYTES_MAX + 1,
+        });
     }
-    if is_skipped_text(unblanked(line)) {
+    if is_skipped_text(after_blanks(line)) {
         return Ok(None);
     }
     let (found, places) = tokens(alloc, line)?;

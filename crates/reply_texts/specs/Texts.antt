@@ -1,11 +1,12 @@
 -- The lines of replies.
-use Rattle.std.specs.Prelude.{ℕ, true, false, ◌==◌, Option, Some, None, List, [], ◌∷◌, ◌++◌, length, codes, if◌then◌else◌}
+use Rattle.std.specs.Prelude.{ℕ, true, false, Option, Some, None, List, [], ◌∷◌, ◌++◌, length, codes}
 use Rattle.std.specs.Fmt.{decimal, signed_decimal}
 use Rattle.hex.specs.Hex.{encode_lower}
 use Rattle.mvcc_keys.specs.Times.{Time}
 use Rattle.mvcc_keys.specs.TimeTexts.{time_text}
 use Rattle.row_codec.specs.declared.rows.Datum.{Datum}
 use Rattle.row_codec.specs.declared.rows.Datum.TheVariants.{Int, Text, Bytes, Bool as Truth, Null}
+use Rattle.script_tokens.specs.Spellings.{double_quotes}
 use Rattle.reply_texts.specs.declared.refusals.Refusal.{Refusal}
 use Rattle.reply_texts.specs.declared.refusals.Refusal.TheVariants.{ClockFull, TickBack, NoSuchDatabase, DatabaseExists, NoSuchTable, NameTaken, NotPublic, BadSchema, WrongRow, TooLarge, Future, Collected, Referenced, DuplicateKey, NoSuchBackup, StartCollected, EndNotAfter, NotCovered, NeedsHistory, HistoryCollected, Gap, NothingToRestore, MissingReference, LayerDiffers, Damaged, Malformed, TooManyTables, TooManyEvents, NoSuchLayer, EmptyRange}
 use Rattle.reply_texts.specs.declared.answers.RestoredTable.{RestoredTable}
@@ -67,18 +68,10 @@ refusal_text refusal = backup_refusal_text refusal
 
 -- ---- rows
 
--- a quote is written twice
-abbrev pub quoted_byte : ℕ → List ℕ
-quoted_byte b = if b == 39 then 39 ∷ 39 ∷ [] else b ∷ []
-
-abbrev pub doubled : List ℕ → List ℕ
-doubled [] = []
-doubled (b ∷ bs) = quoted_byte b ++ doubled bs
-
 -- a value: a number in decimal, a text in quotes, bytes in hexadecimal digits, a truth value, NULL
 abbrev pub datum_text : Datum → List ℕ
 datum_text (Int n) = signed_decimal n
-datum_text (Text s) = codes "'" ++ (doubled s ++ codes "'")
+datum_text (Text s) = codes "'" ++ (double_quotes s ++ codes "'")
 datum_text (Bytes b) = codes "x'" ++ (encode_lower b ++ codes "'")
 datum_text (Truth true) = codes "true"
 datum_text (Truth false) = codes "false"

@@ -1,6 +1,7 @@
 //! The lines of rows.
 ghost use Rattle.std.specs.Prelude.{◌≡◌, ◌++◌, codes, OnOk};
-ghost use Rattle.reply_texts.specs.Texts.{quoted_byte, doubled, datum_text, more_text, values_text, row_text, rows_text};
+ghost use Rattle.reply_texts.specs.Texts.{datum_text, more_text, values_text, row_text, rows_text};
+ghost use Rattle.script_tokens.specs.Spellings.{text_byte, double_quotes};
 ghost use Rattle.std.specs.Fmt.{signed_decimal};
 ghost use Rattle.hex.specs.Hex.{encode_lower};
 
@@ -13,8 +14,9 @@ pub fn put_bytes(bytes: &[u8], text: &mut Vec<u8>) -> Result<(), Memory>
     Ok(text.extend_from_slice(bytes)?)
 }
 
-fn put_quoted_byte(byte: u8, text: &mut Vec<u8>) -> Result<(), Memory>
-    ensures { OnOk result (text.new.items ≡ text.old.items ++ quoted_byte byte) }
+/// Appends a byte of a text, a quote twice.
+fn put_text_byte(byte: u8, text: &mut Vec<u8>) -> Result<(), Memory>
+    ensures { OnOk result (text.new.items ≡ text.old.items ++ text_byte byte) }
 {
     if byte == b'\'' {
         return put_bytes(b"''", text);
@@ -23,20 +25,20 @@ fn put_quoted_byte(byte: u8, text: &mut Vec<u8>) -> Result<(), Memory>
 }
 
 /// Appends bytes with each quote written twice.
-fn put_doubled(bytes: &[u8], text: &mut Vec<u8>) -> Result<(), Memory>
-    ensures { OnOk result (text.new.items ≡ text.old.items ++ doubled bytes.now) }
+fn put_text_bytes(bytes: &[u8], text: &mut Vec<u8>) -> Result<(), Memory>
+    ensures { OnOk result (text.new.items ≡ text.old.items ++ double_quotes bytes.now) }
 {
     for byte in bytes {
-        put_quoted_byte(*byte, text)?;
+        put_text_byte(*byte, text)?;
     }
     Ok(())
 }
 
 fn put_text(value: &[u8], text: &mut Vec<u8>) -> Result<(), Memory>
-    ensures { OnOk result (text.new.items ≡ text.old.items ++ (codes "'" ++ (doubled value.now ++ codes "'"))) }
+    ensures { OnOk result (text.new.items ≡ text.old.items ++ (codes "'" ++ (double_quotes value.now ++ codes "'"))) }
 {
     put_bytes(b"'", text)?;
-    put_doubled(value, text)?;
+    put_text_bytes(value, text)?;
     put_bytes(b"'", text)
 }
 

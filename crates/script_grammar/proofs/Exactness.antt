@@ -1,9 +1,11 @@
 -- Forms that are read exactly as they are defined.
 use Rattle.std.proofs.Common.{◌≡◌, ℕ, zero, suc, ◌≤◌, Bool, true, false, List, [], ◌∷◌, ◌++◌, length, Option, Some, None, refl, sym, ap, ◌∙◌, arith, length-append, ◌⊎◌, inl, inr, if◌then◌else◌}
-use Rattle.script_grammar.specs.declared.token.Token.{Token}
-use Rattle.script_grammar.specs.declared.token.Token.TheVariants.{Word, Mark}
-use Rattle.script_grammar.specs.Grammar.{Form, Progress, Read, Fault, read_within, begins_with, and_read, give, one, fits, word, is_word, mark, is_mark, repeated, listed, either, ending, EndsLine, ◌making◌, read_making, ◌or◌, farthest, ◌>>=◌, ◌>>◌, taken, Repeats}
+use Rattle.script_tokens.specs.declared.token.Token.{Token}
+use Rattle.script_tokens.specs.declared.token.Token.TheVariants.{Word, Mark}
+use Rattle.script_grammar.specs.Grammar.{Form, Progress, Read, Fault, read_within, begins_with, and_read, give, one, fits, word, is_word, mark, is_mark, many, list_of, either, ending, EndsLine, ◌making◌, read_making, ◌or◌, farthest, ◌>>=◌, ◌>>◌, token_or_fault, Repeats}
 use Rattle.script_grammar.specs.Columns.{Lists, Begins, Stops, Explains}
+use Rattle.list_laws.proofs.Options.{none-some}
+use Rattle.script_tokens.proofs.Lexing.{apart}
 
 -- ---- languages
 
@@ -116,9 +118,6 @@ some_list n f right = go (f.read []) (right [] (omega arith))
 pub part_rest : {A : Type 0} (f : Form A) → IsPart f → IsRest f
 part_rest f part B n g right ts short = part B n g right ts (omega (arith, short))
 
-nothing : {A : Type 0} (o : Option A) (a : A) → o ≡ None → o ≡ Some a → ⊥
-nothing o a e f = cc
-
 some_same : {A : Type 0} (o : Option A) (a b : A) → o ≡ Some a → o ≡ Some b → a ≡ b
 some_same o a b e f = cc
 
@@ -135,7 +134,7 @@ one_part means sample value is B n g right [] short =
     }
 one_part {A = A} means sample value is B n g right (t ∷ ts) short = go (means t) refl
   where
-    go : (o : Option A) → means t ≡ o → Explains (Lists (one means >>= g)) (t ∷ ts) (and_read (taken (length (t ∷ ts)) o ts) (λ a rest. (g a).read rest))
+    go : (o : Option A) → means t ≡ o → Explains (Lists (one means >>= g)) (t ∷ ts) (and_read (token_or_fault (length (t ∷ ts)) o ts) (λ a rest. (g a).read rest))
     go None e =
         let some = some_list n (g value) (right value) in
         record {
@@ -144,7 +143,7 @@ one_part {A = A} means sample value is B n g right (t ∷ ts) short = go (means 
           split = refl;
           left_is = refl;
           begins = (sample ∷ some.0, some.1, (value, some.0, (is, refl), some.2));
-          stops = λ b. nothing (means t) b.2.0 e b.2.2.0;
+          stops = λ b. none-some (means t) b.2.0 e b.2.2.0;
         }
     go (Some a) e = shift (Lists (g a)) (Lists (one means >>= g)) t ts ((g a).read ts)
         (λ vs b l. (a, vs, (e, refl), l))
@@ -198,8 +197,8 @@ part_before_then stop f h part rest C n g right refuses = upto_assoc f h g (suc 
 
 stop_there : {A B : Type 0} (starts : Token → Bool) (f : Form A) (g : List A → Form B) → Wants starts f
     → (ts : List Token) (p : Progress B) → begins_with starts ts ≡ false
-    → Explains (Lists (g [])) ts p → Explains (Lists (repeated starts f >>= g)) ts p
-stop_there {A = A} {B = B} starts f g wants [] p miss = grow_none (Lists (g [])) (Lists (repeated starts f >>= g)) p
+    → Explains (Lists (g [])) ts p → Explains (Lists (many starts f >>= g)) ts p
+stop_there {A = A} {B = B} starts f g wants [] p miss = grow_none (Lists (g [])) (Lists (many starts f >>= g)) p
     (λ vs b l. ([], vs, refl, l))
     (λ b l. back l.0 l.1 b l.2 l.3)
   where
@@ -209,7 +208,7 @@ stop_there {A = A} {B = B} starts f g wants [] p miss = grow_none (Lists (g []))
       where
         not_both : false ≡ true → ⊥
         not_both e = cc
-stop_there {A = A} {B = B} starts f g wants (t ∷ ts) p miss = grow (Lists (g [])) (Lists (repeated starts f >>= g)) t ts p
+stop_there {A = A} {B = B} starts f g wants (t ∷ ts) p miss = grow (Lists (g [])) (Lists (many starts f >>= g)) t ts p
     (λ vs b l. ([], vs, refl, l))
     (λ vs b l. back l.0 vs l.1 b l.2 l.3)
   where
@@ -220,14 +219,11 @@ stop_there {A = A} {B = B} starts f g wants (t ∷ ts) p miss = grow (Lists (g [
         not_both : (x : Bool) → x ≡ false → x ≡ true → ⊥
         not_both x d e = cc
 
-pub apart : (x : Bool) → x ≡ false → x ≡ true → ⊥
-apart x d e = cc
-
 -- the line, where so many tokens may still be read
 repeat_within : {A B : Type 0} (starts stop : Token → Bool) (f : Form A) → IsPartBefore stop f → Wants starts f → ((t : Token) → stop t ≡ true → starts t ≡ false)
     → (n : ℕ) (g : List A → Form B) → ((os : List A) → ReadsUpTo n (g os)) → ((os : List A) → Refuses starts (g os)) → ((os : List A) → Refuses stop (g os))
     → (ts : List Token) → length ts ≤ n
-    → Explains (Lists (repeated starts f >>= g)) ts (and_read (read_within n starts f.read ts) (λ os rest. (g os).read rest))
+    → Explains (Lists (many starts f >>= g)) ts (and_read (read_within n starts f.read ts) (λ os rest. (g os).read rest))
 repeat_within starts stop f part wants other zero g right refuses stops [] short = stop_there starts f g wants [] ((g []).read []) refl (right [] [] short)
 repeat_within starts stop f part wants other zero g right refuses stops (t ∷ ts) short = absurd (omega (arith, short))
 repeat_within starts stop f part wants other (suc n) g right refuses stops [] short = stop_there starts f g wants [] ((g []).read []) refl (right [] [] short)
@@ -236,7 +232,7 @@ repeat_within {A = A} {B = B} starts stop f part wants other (suc n) g right ref
   where
     after : A → Form B
     after a = record {
-      Spells = (repeated starts f >>= (λ os. g (a ∷ os))).Spells;
+      Spells = (many starts f >>= (λ os. g (a ∷ os))).Spells;
       read = λ us. and_read (read_within n starts f.read us) (λ os rest. (g (a ∷ os)).read rest);
     }
 
@@ -268,23 +264,23 @@ repeat_within {A = A} {B = B} starts stop f part wants other (suc n) g right ref
     back hit (a ∷ os) vs m b r l = (a, r.0, r.1, (os, m, r.2, l))
 
     go : ((a : A) → ReadsUpTo n (after a)) → (x : Bool) → starts t ≡ x
-        → Explains (Lists (repeated starts f >>= g)) (t ∷ ts)
+        → Explains (Lists (many starts f >>= g)) (t ∷ ts)
         (and_read (if x then and_read (f.read (t ∷ ts)) (λ a rest. and_read (read_within n starts f.read rest) (λ others end. Read (a ∷ others) end)) else Read [] (t ∷ ts)) (λ os rest. (g os).read rest))
     go again false miss = stop_there starts f g wants (t ∷ ts) ((g []).read (t ∷ ts)) miss (right [] (t ∷ ts) short)
-    go again true hit = grow (Lists (f >>= after)) (Lists (repeated starts f >>= g)) t ts _
+    go again true hit = grow (Lists (f >>= after)) (Lists (many starts f >>= g)) t ts _
         (λ vs b l. (l.0 ∷ l.3.0, l.3.1, (l.1, l.2, l.3.2), l.3.3))
         (λ vs b l. back hit l.0 vs l.1 b l.2 l.3)
         (reads (f.read (t ∷ ts)) (part B n after again follows (t ∷ ts) short))
 
 pub repeat_before : {A B : Type 0} (starts stop : Token → Bool) (f : Form A) → IsPartBefore stop f → Wants starts f → ((t : Token) → stop t ≡ true → starts t ≡ false)
     → (n : ℕ) (g : List A → Form B) → ((os : List A) → ReadsUpTo n (g os)) → ((os : List A) → Refuses starts (g os)) → ((os : List A) → Refuses stop (g os))
-    → ReadsUpTo n (repeated starts f >>= g)
+    → ReadsUpTo n (many starts f >>= g)
 repeat_before starts stop f part wants other n g right refuses stops ts short =
     repeat_within starts stop f part wants other (length ts) g (λ os us few. right os us (omega (arith, few, short))) refuses stops ts (omega arith)
 
 pub repeat_then : {A B : Type 0} (starts : Token → Bool) (f : Form A) → IsPart f → Wants starts f
     → (n : ℕ) (g : List A → Form B) → ((os : List A) → ReadsUpTo n (g os)) → ((os : List A) → Refuses starts (g os))
-    → ReadsUpTo n (repeated starts f >>= g)
+    → ReadsUpTo n (many starts f >>= g)
 repeat_then starts f part wants n g right refuses =
     repeat_before starts (λ _. false) f (part_before f part) wants (λ t hit. absurd (apart false refl hit)) n g right refuses (λ os t ts b rest hit l. apart false refl hit)
 
@@ -295,7 +291,7 @@ wants_one starts means g fits [] b rest l = absurd l.2
 wants_one starts means g fits (t ∷ ts) b rest l = fits t l.0 l.2.0
 
 pub refuses_one : {A B : Type 0} (stop : Token → Bool) (means : Token → Option A) (g : A → Form B) → ((t : Token) → stop t ≡ true → means t ≡ None) → Refuses stop (one means >>= g)
-refuses_one stop means g none t ts b rest hit l = nothing (means t) l.0 (none t hit) l.2.0
+refuses_one stop means g none t ts b rest hit l = none-some (means t) l.0 (none t hit) l.2.0
 
 pub refuses_give : {A B : Type 0} (stop : Token → Bool) (a : A) (g : A → Form B) → Refuses stop (g a) → Refuses stop (give a >>= g)
 refuses_give stop a g refuses t ts b rest hit l =
@@ -308,7 +304,7 @@ refuses_either stop starts f g k wants other refuses t ts b rest hit l = elim l.
   | inr s ↦ refuses t ts b rest hit (l.0, l.1, s, l.3)
 ]
 
-pub refuses_repeated : {A B : Type 0} (stop starts : Token → Bool) (f : Form A) (g : List A → Form B) → Wants starts f → ((t : Token) → stop t ≡ true → starts t ≡ false) → ((os : List A) → Refuses stop (g os)) → Refuses stop (repeated starts f >>= g)
+pub refuses_repeated : {A B : Type 0} (stop starts : Token → Bool) (f : Form A) (g : List A → Form B) → Wants starts f → ((t : Token) → stop t ≡ true → starts t ≡ false) → ((os : List A) → Refuses stop (g os)) → Refuses stop (many starts f >>= g)
 refuses_repeated {A = A} {B = B} stop starts f g wants other refuses t ts b rest hit l = go l.0 l.1 l.2 l.3
   where
     go : (os : List A) (m : List Token) → Repeats f.Spells (t ∷ ts) os m → (g os).Spells m b rest → ⊥
@@ -366,15 +362,15 @@ fits_test test t a = go (test t)
 pub refuses_assoc : {A B C : Type 0} (stop : Token → Bool) (f : Form A) (h : A → Form B) (g : B → Form C) → Refuses stop (f >>= (λ a. h a >>= g)) → Refuses stop ((f >>= h) >>= g)
 refuses_assoc stop f h g refuses t ts c rest hit l = refuses t ts c rest hit (l.2.0, l.2.1, l.2.2, (l.0, l.1, l.2.3, l.3))
 
--- what follows begins with no comma, and with nothing that the items may not stand before
+-- what follows begins with no comma, and with none-some that the items may not stand before
 pub listed_upto : {A B : Type 0} (stop : Token → Bool) (f : Form A) (k : List A → Form B) (n : ℕ) → IsPartBefore stop f → ((t : Token) → stop t ≡ true → is_mark 44 t ≡ false)
     → ((xs : List A) → ReadsUpTo n (k xs)) → ((xs : List A) → Refuses (is_mark 44) (k xs)) → ((xs : List A) → Refuses stop (k xs))
-    → ReadsUpTo n (listed f >>= k)
+    → ReadsUpTo n (list_of f >>= k)
 listed_upto {A = A} {B = B} stop f k n part other right commas stops =
     upto_assoc f tail k n (λ ts short. part B n (λ x. tail x >>= k) whole barred ts (omega (arith, short)))
   where
     more : Form (List A)
-    more = repeated (is_mark 44) (mark 44 >> f)
+    more = many (is_mark 44) (mark 44 >> f)
 
     tail : A → Form (List A)
     tail x = more >>= (λ xs. give (x ∷ xs))
@@ -393,9 +389,9 @@ listed_upto {A = A} {B = B} stop f k n part other right commas stops =
     barred x = refuses_assoc stop more (λ xs. give (x ∷ xs)) k (refuses_repeated stop (is_mark 44) (mark 44 >> f) (λ xs. give (x ∷ xs) >>= k) opens other (λ xs. refuses_give stop (x ∷ xs) k (stops (x ∷ xs))))
 
 pub listed_rest : {A B : Type 0} (stop : Token → Bool) (f : Form A) (h : List A → Form B) → IsPartBefore stop f → ((t : Token) → stop t ≡ true → is_mark 44 t ≡ false)
-    → ((xs : List A) → IsRest (h xs)) → ((xs : List A) → Refuses (is_mark 44) (h xs)) → ((xs : List A) → Refuses stop (h xs)) → IsRest (listed f >>= h)
+    → ((xs : List A) → IsRest (h xs)) → ((xs : List A) → Refuses (is_mark 44) (h xs)) → ((xs : List A) → Refuses stop (h xs)) → IsRest (list_of f >>= h)
 listed_rest stop f h part other rest commas stops C n g right =
-    upto_assoc (listed f) h g n (listed_upto stop f (λ xs. h xs >>= g) n part other (λ xs. rest xs C n g right) (λ xs. refuses_then (is_mark 44) (h xs) g (commas xs)) (λ xs. refuses_then stop (h xs) g (stops xs)))
+    upto_assoc (list_of f) h g n (listed_upto stop f (λ xs. h xs >>= g) n part other (λ xs. rest xs C n g right) (λ xs. refuses_then (is_mark 44) (h xs) g (commas xs)) (λ xs. refuses_then stop (h xs) g (stops xs)))
 
 -- ---- the end
 

@@ -2,12 +2,14 @@
 use Rattle.std.proofs.Common.{◌≡◌, Bool, true, false, ℕ, List, [], ◌∷◌, ◌++◌, Option, Some, None, refl, sym, not, ◌&&◌, ◌||◌, ◌⊎◌, inl, inr}
 use Rattle.std.specs.Str.{bytes_eq}
 use Rattle.std.proofs.lemmas.Slice.Eq.{bytes_eq-Decides}
-use Rattle.script_grammar.specs.declared.token.Token.{Token}
+use Rattle.script_tokens.specs.declared.token.Token.{Token}
 use Rattle.script_grammar.specs.Grammar.{Form, give, one, fits, word, is_word, mark, is_mark, ◌making◌, ◌or◌, ◌>>=◌, ◌>>◌}
 use Rattle.script_grammar.specs.Columns.{Lists}
 use Rattle.script_grammar.specs.Parts.{name, name_of_token, table}
-use Rattle.script_grammar.proofs.Exactness.{apart, fits_test, or_right}
+use Rattle.script_grammar.proofs.Exactness.{fits_test, or_right}
+use Rattle.script_tokens.proofs.Lexing.{apart}
 use Rattle.script_grammar.proofs.Rights.{IsRight, making_, from_word}
+use Rattle.list_laws.proofs.Bools.{and-parts, not-or}
 
 -- what tokens begin with: Some w is this word, None any token
 abbrev pub Lead : Type 0
@@ -35,26 +37,18 @@ abbrev pub clash_lists : List Lead → List Lead → Bool
 clash_lists [] qss = true
 clash_lists (ps ∷ pss) qss = clash_all ps qss && clash_lists pss qss
 
-and_parts : (x y : Bool) → (x && y) ≡ true → (x ≡ true) × (y ≡ true)
-and_parts true y e = (refl, e)
-and_parts false y e = absurd (apart false refl e)
-
-or_false : (x y : Bool) → x ≡ true → (not x || y) ≡ true → y ≡ true
-or_false true y h e = e
-or_false false y h e = absurd (apart false refl h)
-
 clash_apart : (ps qs : Lead) (ts : List Token) → clash ps qs ≡ true → fits_lead ps ts ≡ true → fits_lead qs ts ≡ true → ⊥
 clash_apart [] qs ts c f g = apart false refl c
 clash_apart (p ∷ ps) [] ts c f g = apart false refl c
 clash_apart (p ∷ ps) (q ∷ qs) [] c f g = apart false refl f
 clash_apart (None ∷ ps) (None ∷ qs) (t ∷ ts) c f g = clash_apart ps qs ts c f g
-clash_apart (None ∷ ps) (Some v ∷ qs) (t ∷ ts) c f g = clash_apart ps qs ts c f (and_parts (is_word v t) (fits_lead qs ts) g).1
-clash_apart (Some w ∷ ps) (None ∷ qs) (t ∷ ts) c f g = clash_apart ps qs ts c (and_parts (is_word w t) (fits_lead ps ts) f).1 g
+clash_apart (None ∷ ps) (Some v ∷ qs) (t ∷ ts) c f g = clash_apart ps qs ts c f (and-parts (is_word v t) (fits_lead qs ts) g).1
+clash_apart (Some w ∷ ps) (None ∷ qs) (t ∷ ts) c f g = clash_apart ps qs ts c (and-parts (is_word w t) (fits_lead ps ts) f).1 g
 clash_apart (Some w ∷ ps) (Some v ∷ qs) (t ∷ ts) c f g =
-    let ws = and_parts (is_word w t) (fits_lead ps ts) f in
-    let vs = and_parts (is_word v t) (fits_lead qs ts) g in
+    let ws = and-parts (is_word w t) (fits_lead ps ts) f in
+    let vs = and-parts (is_word v t) (fits_lead qs ts) g in
     let same : bytes_eq v w ≡ true = from_word w (λ u. is_word v u ≡ true → bytes_eq v w ≡ true) (λ h. eq_back v w h) t ws.0 vs.0 in
-    clash_apart ps qs ts (or_false (bytes_eq v w) (clash ps qs) same c) ws.1 vs.1
+    clash_apart ps qs ts (not-or (bytes_eq v w) (clash ps qs) same c) ws.1 vs.1
   where
     eq_back : (x y : List ℕ) → bytes_eq y x ≡ true → bytes_eq x y ≡ true
     eq_back x y h = (bytes_eq-Decides x y).1 (sym ((bytes_eq-Decides y x).0 h))
@@ -115,13 +109,13 @@ among_right (ps ∷ pss) qss ts a = inr (among_right pss qss ts a)
 
 apart_from : (ps : Lead) (qss : List Lead) (ts : List Token) → clash_all ps qss ≡ true → fits_lead ps ts ≡ true → Among qss ts → ⊥
 apart_from ps [] ts c f a = a
-apart_from ps (qs ∷ qss) ts c f (inl g) = clash_apart ps qs ts (and_parts (clash ps qs) (clash_all ps qss) c).0 f g
-apart_from ps (qs ∷ qss) ts c f (inr a) = apart_from ps qss ts (and_parts (clash ps qs) (clash_all ps qss) c).1 f a
+apart_from ps (qs ∷ qss) ts c f (inl g) = clash_apart ps qs ts (and-parts (clash ps qs) (clash_all ps qss) c).0 f g
+apart_from ps (qs ∷ qss) ts c f (inr a) = apart_from ps qss ts (and-parts (clash ps qs) (clash_all ps qss) c).1 f a
 
 apart_lists : (pss qss : List Lead) (ts : List Token) → clash_lists pss qss ≡ true → Among pss ts → Among qss ts → ⊥
 apart_lists [] qss ts c a b = a
-apart_lists (ps ∷ pss) qss ts c (inl f) b = apart_from ps qss ts (and_parts (clash_all ps qss) (clash_lists pss qss) c).0 f b
-apart_lists (ps ∷ pss) qss ts c (inr a) b = apart_lists pss qss ts (and_parts (clash_all ps qss) (clash_lists pss qss) c).1 a b
+apart_lists (ps ∷ pss) qss ts c (inl f) b = apart_from ps qss ts (and-parts (clash_all ps qss) (clash_lists pss qss) c).0 f b
+apart_lists (ps ∷ pss) qss ts c (inr a) b = apart_lists pss qss ts (and-parts (clash_all ps qss) (clash_lists pss qss) c).1 a b
 
 -- a form that is read right, each list of which begins in one of these ways
 pub record Family {A : Type 0} (pss : List Lead) (form : Form A) : Type 0 where

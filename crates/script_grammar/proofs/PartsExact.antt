@@ -9,13 +9,14 @@ use Rattle.row_codec.specs.declared.rows.Datum.{Datum}
 use Rattle.row_codec.specs.declared.rows.Kind.{Kind}
 use Rattle.row_codec.specs.declared.rows.Datum.TheVariants.{Null}
 use Rattle.row_codec.specs.declared.rows.Kind.TheVariants.{Int as IntKind}
-use Rattle.script_grammar.specs.declared.token.Token.{Token}
-use Rattle.script_grammar.specs.declared.token.Token.TheVariants.{Word, Number, Text, Bytes, Mark, Bad}
-use Rattle.script_grammar.specs.Grammar.{Form, give, one, fits, word, is_word, mark, is_mark, repeated, listed, maybe_one, ending, ◌>>=◌, ◌>>◌}
-use Rattle.script_grammar.specs.Parts.{name, name_of_token, new_name_of, count_of, kind_of, datum_of, time_of, order_of, table, row, rows, time_given, asof, column, column_and_comma, starts_column, columns, key_column, key, reference, references, collection_of, source_of, in_collection, source_in, with_table, tables, restore_option, new_name_after, restore_options_given, restore_options, PartsAreExact}
+use Rattle.script_tokens.specs.declared.token.Token.{Token}
+use Rattle.script_tokens.specs.declared.token.Token.TheVariants.{Word, Number, Text, Bytes, Mark, Bad}
+use Rattle.script_grammar.specs.Grammar.{Form, give, one, fits, word, is_word, mark, is_mark, many, list_of, maybe_one, ending, ◌>>=◌, ◌>>◌}
+use Rattle.script_grammar.specs.Parts.{name, name_of_token, new_name_of, count_of, kind_of, datum_of, time_of, order_of, table, row, rows, time_clause, asof, column, column_and_comma, starts_column, columns, key_column, key, reference, references, collection_of, source_of, in_collection, source_in, with_table, tables, restore_option, new_name_after, options_clause, restore_options, PartsAreExact}
 use Rattle.script_grammar.specs.declared.backups.Src.TheVariants.{Latest}
 use Rattle.script_grammar.specs.declared.backups.RestoreOption.{RestoreOption}
-use Rattle.script_grammar.proofs.Exactness.{IsPart, IsPartBefore, one_part, part_rest, part_then, part_before, part_before_then, give_rest, give_then, upto_assoc, repeat_then, listed_rest, either_then, apart, wants_bare, refuses_one, refuses_give, word_part, mark_part}
+use Rattle.script_grammar.proofs.Exactness.{IsPart, IsPartBefore, one_part, part_rest, part_then, part_before, part_before_then, give_rest, give_then, upto_assoc, repeat_then, listed_rest, either_then, wants_bare, refuses_one, refuses_give, word_part, mark_part}
+use Rattle.script_tokens.proofs.Lexing.{apart}
 use Rattle.script_grammar.proofs.Rights.{IsRight, Bars, Opens, explained, then_, word_, then_before_, end_, give_, repeat_, listed_, either_, assoc_, fits_none, opens_mark, opens_word, bars_mark_mark, bars_mark_end, bars_word_end, bars_word_either, bars_give, bars_then, bars_one, opens_one}
 use Rattle.script_grammar.proofs.Families.{Family, family, or_, making_family, lead_word, lead_table, lead_end}
 
@@ -67,22 +68,22 @@ row_part =
 pub rows_ : {B : Type 0} (k : List (List Datum) → Form B) → ((rs : List (List Datum)) → IsRight (k rs)) → ((rs : List (List Datum)) → Bars (is_mark 44) (k rs)) → IsRight (rows >>= k)
 rows_ k right bars = listed_ row k row_part right bars
 
-time_given_part : IsPart time_given
-unfolding time_given
+time_given_part : IsPart time_clause
+unfolding time_clause
 time_given_part =
     part_then _ _ (word_part (codes "as") refl) (λ _. part_rest _ (part_then _ _ (word_part (codes "of") refl) (λ _. part_rest _ (
     part_then _ _ (word_part (codes "system") refl) (λ _. part_rest _ (part_then _ _ (word_part (codes "time") refl) (λ _. part_rest _ (
     part_then (one time_of) _ time_part (λ t. give_rest _)))))))))
 
-time_given_opens : Opens (is_word (codes "as")) time_given
-unfolding time_given
+time_given_opens : Opens (is_word (codes "as")) time_clause
+unfolding time_clause
 time_given_opens = opens_word (codes "as") _
 
 -- `[AS OF SYSTEM TIME time]`, and then what doesn't begin with AS
 pub asof_ : {B : Type 0} (k : Option Time → Form B) → ((t : Option Time) → IsRight (k t)) → Bars (is_word (codes "as")) (k None) → IsRight (asof >>= k)
 unfolding asof
-asof_ k right bars = either_ (is_word (codes "as")) time_given (give None) k time_given_opens
-    (then_ time_given k time_given_part right) (give_ None k (right None)) (bars_give (is_word (codes "as")) None k bars)
+asof_ k right bars = either_ (is_word (codes "as")) time_clause (give None) k time_given_opens
+    (then_ time_clause k time_given_part right) (give_ None k (right None)) (bars_give (is_word (codes "as")) None k bars)
 
 -- ---- columns
 
@@ -110,7 +111,7 @@ columns_part = part_before_then starts_column column_and_comma tail column_and_c
     (λ xs. give_then (x ∷ xs) g n (right (x ∷ xs))) (λ xs. refuses_give starts_column (x ∷ xs) g (refuses (x ∷ xs)))))
   where
     more : Form (List (List ℕ × Kind))
-    more = repeated starts_column column_and_comma
+    more = many starts_column column_and_comma
 
     tail : List ℕ × Kind → Form (List (List ℕ × Kind))
     tail x = more >>= (λ xs. give (x ∷ xs))
@@ -200,22 +201,22 @@ source_in_part = part_then (one source_of) in_collection source_part (λ s. part
 pub tables_ : {B : Type 0} (k : List (List ℕ × List ℕ) → Form B) → ((ts : List (List ℕ × List ℕ)) → IsRight (k ts)) → ((ts : List (List ℕ × List ℕ)) → Bars (is_mark 44) (k ts)) → IsRight (tables >>= k)
 unfolding tables
 tables_ k right bars =
-    assoc_ (listed table) (λ ts. give (fold with_table [] ts)) k
+    assoc_ (list_of table) (λ ts. give (fold with_table [] ts)) k
     (listed_ table (λ ts. give (fold with_table [] ts) >>= k) table_part (λ ts. give_ _ k (right _)) (λ ts. bars_give (is_mark 44) _ k (bars _)))
 
 restore_option_part : IsPart restore_option
 unfolding restore_option
 restore_option_part = part_then _ _ (word_part (codes "new_db_name") refl) (λ _. part_rest _ (part_then (mark 61) _ (mark_part 61 refl) (λ _. part_rest _ (part_then (one collection_of) _ collection_part (λ c. give_rest _)))))
 
-restore_options_given_opens : Opens (is_word (codes "with")) restore_options_given
-unfolding restore_options_given
+restore_options_given_opens : Opens (is_word (codes "with")) options_clause
+unfolding options_clause
 restore_options_given_opens = opens_word (codes "with") _
 
-restore_options_given_ : {B : Type 0} (k : Option (List ℕ) → Form B) → ((n : Option (List ℕ)) → IsRight (k n)) → ((n : Option (List ℕ)) → Bars (is_mark 44) (k n)) → IsRight (restore_options_given >>= k)
-unfolding restore_options_given
+restore_options_given_ : {B : Type 0} (k : Option (List ℕ) → Form B) → ((n : Option (List ℕ)) → IsRight (k n)) → ((n : Option (List ℕ)) → Bars (is_mark 44) (k n)) → IsRight (options_clause >>= k)
+unfolding options_clause
 restore_options_given_ k right bars =
-    assoc_ (word (codes "with")) (λ _. listed restore_option >>= chosen) k (word_ (codes "with") _ refl
-    (assoc_ (listed restore_option) chosen k
+    assoc_ (word (codes "with")) (λ _. list_of restore_option >>= chosen) k (word_ (codes "with") _ refl
+    (assoc_ (list_of restore_option) chosen k
     (listed_ restore_option (λ os. chosen os >>= k) restore_option_part (λ os. give_ _ k (right _)) (λ os. bars_give (is_mark 44) _ k (bars _)))))
   where
     chosen : List RestoreOption → Form (Option (List ℕ))
@@ -224,13 +225,13 @@ restore_options_given_ k right bars =
 -- `[WITH option {, option}]`, and then what begins with no comma, and not with WITH
 pub restore_options_ : {B : Type 0} (k : Option (List ℕ) → Form B) → ((n : Option (List ℕ)) → IsRight (k n)) → ((n : Option (List ℕ)) → Bars (is_mark 44) (k n)) → Bars (is_word (codes "with")) (k None) → IsRight (restore_options >>= k)
 unfolding restore_options
-restore_options_ k right commas bars = either_ (is_word (codes "with")) restore_options_given (give None) k restore_options_given_opens
+restore_options_ k right commas bars = either_ (is_word (codes "with")) options_clause (give None) k restore_options_given_opens
     (restore_options_given_ k right commas) (give_ None k (right None)) (bars_give (is_word (codes "with")) None k bars)
 
 -- options don't begin with another word
 pub restore_options_bar : {B : Type 0} (w : List ℕ) (k : Option (List ℕ) → Form B) → is_word (codes "with") (Word w) ≡ false → Bars (is_word w) (k None) → Bars (is_word w) (restore_options >>= k)
 unfolding restore_options
-restore_options_bar w k is bars = bars_word_either w (codes "with") restore_options_given (give None) k restore_options_given_opens is (bars_give (is_word w) None k bars)
+restore_options_bar w k is bars = bars_word_either w (codes "with") options_clause (give None) k restore_options_given_opens is (bars_give (is_word w) None k bars)
 
 -- ---- the law
 

@@ -1,7 +1,7 @@
 -- The loop that reads a part any number of times.
 use Rattle.std.proofs.Common.{◌≡◌, ℕ, zero, suc, Bool, true, false, List, [], ◌∷◌, ◌++◌, refl, sym, ap, arith, append_assoc}
 use Rattle.std.proofs.lemmas.List.{append-nil}
-use Rattle.script_grammar.specs.declared.token.Token.{Token}
+use Rattle.script_tokens.specs.declared.token.Token.{Token}
 use Rattle.script_grammar.specs.Grammar.{Progress, Read, Fault, read_within, with_front, begins_with, and_read, Fails}
 use Rattle.script_grammar.specs.declared.broken.Broken.{Broken}
 use Rattle.script_grammar.specs.declared.broken.Broken.TheVariants.{At, Memory}

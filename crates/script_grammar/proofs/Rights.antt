@@ -2,11 +2,12 @@
 use Rattle.std.proofs.Common.{◌≡◌, ℕ, Bool, true, false, List, length, Option, Some, None, refl, arith}
 use Rattle.std.proofs.lemmas.Bool.{eqb-true}
 use Rattle.std.proofs.lemmas.Slice.Eq.{bytes_eq-Decides}
-use Rattle.script_grammar.specs.declared.token.Token.{Token}
-use Rattle.script_grammar.specs.declared.token.Token.TheVariants.{Word, Number, Text, Bytes, Mark, Bad}
-use Rattle.script_grammar.specs.Grammar.{Form, give, one, fits, word, is_word, mark, is_mark, repeated, listed, either, ending, ◌making◌, ◌>>=◌, ◌>>◌}
+use Rattle.script_tokens.specs.declared.token.Token.{Token}
+use Rattle.script_tokens.specs.declared.token.Token.TheVariants.{Word, Number, Text, Bytes, Mark, Bad}
+use Rattle.script_grammar.specs.Grammar.{Form, give, one, fits, word, is_word, mark, is_mark, many, list_of, either, ending, ◌making◌, ◌>>=◌, ◌>>◌}
 use Rattle.script_grammar.specs.Columns.{IsExact}
-use Rattle.script_grammar.proofs.Exactness.{ReadsUpTo, Refuses, Wants, IsPart, IsPartBefore, part_rest, part_before, give_then, upto_assoc, repeat_then, listed_upto, either_then, ending_right, making_upto, word_part, mark_part, apart, fits_test, wants_one, refuses_one, refuses_give, refuses_either, refuses_ending, refuses_then}
+use Rattle.script_grammar.proofs.Exactness.{ReadsUpTo, Refuses, Wants, IsPart, IsPartBefore, part_rest, part_before, give_then, upto_assoc, repeat_then, listed_upto, either_then, ending_right, making_upto, word_part, mark_part, fits_test, wants_one, refuses_one, refuses_give, refuses_either, refuses_ending, refuses_then}
+use Rattle.script_tokens.proofs.Lexing.{apart}
 
 -- a form that goes to the end of its line is read right
 pub record IsRight {A : Type 0} (form : Form A) : Type 0 where
@@ -50,10 +51,10 @@ assoc_ f h g right = record { upto = λ n. upto_assoc f h g n (right.upto n) }
 pub give_ : {A B : Type 0} (a : A) (g : A → Form B) → IsRight (g a) → IsRight (give a >>= g)
 give_ {B = B} a g right = record { upto = λ n. give_then a g n (right.upto n) }
 
-pub repeat_ : {A B : Type 0} (starts : Token → Bool) (f : Form A) (g : List A → Form B) → IsPart f → Opens starts f → ((os : List A) → IsRight (g os)) → ((os : List A) → Bars starts (g os)) → IsRight (repeated starts f >>= g)
+pub repeat_ : {A B : Type 0} (starts : Token → Bool) (f : Form A) (g : List A → Form B) → IsPart f → Opens starts f → ((os : List A) → IsRight (g os)) → ((os : List A) → Bars starts (g os)) → IsRight (many starts f >>= g)
 repeat_ starts f g part wants right refuses = record { upto = λ n. repeat_then starts f part wants.opens n g (λ os. (right os).upto n) (λ os. (refuses os).bars) }
 
-pub listed_ : {A B : Type 0} (f : Form A) (k : List A → Form B) → IsPart f → ((xs : List A) → IsRight (k xs)) → ((xs : List A) → Bars (is_mark 44) (k xs)) → IsRight (listed f >>= k)
+pub listed_ : {A B : Type 0} (f : Form A) (k : List A → Form B) → IsPart f → ((xs : List A) → IsRight (k xs)) → ((xs : List A) → Bars (is_mark 44) (k xs)) → IsRight (list_of f >>= k)
 listed_ f k part right bars = record {
   upto = λ n. listed_upto (λ _. false) f k n (part_before f part) (λ t hit. absurd (apart false refl hit))
       (λ xs. (right xs).upto n) (λ xs. (bars xs).bars) (λ xs t ts b rest hit l. apart false refl hit);

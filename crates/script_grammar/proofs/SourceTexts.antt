@@ -10,6 +10,7 @@ use Rattle.mvcc_keys.specs.TimeTexts.{TimesAreExact, time_text}
 use Rattle.table_descriptors.specs.Names.{is_name, is_name_text, is_name_byte, name_of}
 use Rattle.script_grammar.specs.declared.backups.Src.TheVariants.{Named}
 use Rattle.script_grammar.specs.Parts.{is_no_slash, slash_at, time_after, named_source, source_text, SourcesAreExact}
+use Rattle.table_descriptors.proofs.Ascii.{name_of-some}
 
 bytes_have_none : (bs : List ℕ) → list_all is_name_byte bs ≡ true → list_all is_no_slash bs ≡ true
 bytes_have_none [] h = refl
@@ -57,13 +58,6 @@ both (Some x) (Some t) c f e = (cc, cc)
 both (Some x) None c f e = cc
 both None p c f e = cc
 
-named : (bs n : List ℕ) → name_of bs ≡ Some n → (is_name n ≡ true) × (bs ≡ n)
-named bs n = go (is_name bs) refl
-  where
-    go : (x : Bool) → is_name bs ≡ x → (if x then Some bs else None) ≡ Some n → (is_name n ≡ true) × (bs ≡ n)
-    go true is e = let same : bs ≡ n = cc in (rw same at is, same)
-    go false is e = cc
-
 parted : TimesAreExact → (s a r cluster : List ℕ) (full : Time) → a ++ r ≡ s → IsAfter r → (a ≡ cluster) → time_after r ≡ Some full → IsTime full × (s ≡ cluster ++ 47 ∷ time_text full)
 parted times s a [] cluster full split after same e = cc
 parted times s a (b ∷ text) cluster full split after same e =
@@ -74,7 +68,7 @@ source-only : TimesAreExact → (s cluster : List ℕ) (full : Time) → source_
 unfolding source_text
 source-only times s cluster full e =
     let parts = both (name_of (take (slash_at s) s)) (time_after (drop (slash_at s) s)) cluster full e in
-    let name = named (take (slash_at s) s) cluster parts.0 in
+    let name = name_of-some (take (slash_at s) s) cluster parts.0 in
     let rest = parted times s (take (slash_at s) s) (drop (slash_at s) s) cluster full (take-append-drop (slash_at s) s) (rest-after s) name.1 parts.1 in
     (name.0, rest.0, rest.1)
 

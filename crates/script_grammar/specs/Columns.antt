@@ -1,6 +1,6 @@
 -- Where tokens that spell nothing break off. Nothing here reads from the left.
 use Rattle.std.specs.Prelude.{◌≡◌, ℕ, List, [], ◌∷◌, ◌++◌, length}
-use Rattle.script_grammar.specs.declared.token.Token.{Token}
+use Rattle.script_tokens.specs.declared.token.Token.{Token}
 use Rattle.script_grammar.specs.Grammar.{Form, Progress, Read, Fault}
 
 -- the token lists that a form has, with what each says

@@ -1,8 +1,8 @@
 -- Forms of lines: which tokens spell a value, and how they are read from the left.
 use Rattle.std.specs.Prelude.{◌≡◌, ℕ, zero, suc, Bool, true, false, List, [], ◌∷◌, ◌++◌, length, Option, Some, None, ◌⊎◌, if◌then◌else◌, ◌==◌, is_some, min, Result, Ok, Err}
 use Rattle.std.specs.Str.{bytes_eq}
-use Rattle.script_grammar.specs.declared.token.Token.{Token}
-use Rattle.script_grammar.specs.declared.token.Token.TheVariants.{Word, Number, Text, Bytes, Mark, Bad}
+use Rattle.script_tokens.specs.declared.token.Token.{Token}
+use Rattle.script_tokens.specs.declared.token.Token.TheVariants.{Word, Number, Text, Bytes, Mark, Bad}
 use Rattle.script_grammar.specs.declared.broken.Broken.{Broken}
 use Rattle.script_grammar.specs.declared.broken.Broken.TheVariants.{At, Memory}
 
@@ -40,13 +40,13 @@ abbrev pub SpellsOne : {A : Type 0} → (Token → Option A) → List Token → 
 SpellsOne means [] a rest = ⊥
 SpellsOne means (t ∷ ts) a rest = (means t ≡ Some a) × (ts ≡ rest)
 
-abbrev pub taken : {A : Type 0} → ℕ → Option A → List Token → Progress A
-taken left None ts = Fault left
-taken left (Some a) ts = Read a ts
+abbrev pub token_or_fault : {A : Type 0} → ℕ → Option A → List Token → Progress A
+token_or_fault left None ts = Fault left
+token_or_fault left (Some a) ts = Read a ts
 
 abbrev pub read_one : {A : Type 0} → (Token → Option A) → List Token → Progress A
 read_one means [] = Fault 0
-read_one means (t ∷ ts) = taken (length (t ∷ ts)) (means t) ts
+read_one means (t ∷ ts) = token_or_fault (length (t ∷ ts)) (means t) ts
 
 -- one token of those that mean something
 abbrev pub one : {A : Type 0} → (Token → Option A) → Form A
@@ -97,22 +97,22 @@ read_within (suc n) starts item ts =
     else Read [] ts
 
 -- `{f}`, where f begins with a token that starts it, and what follows does not
-abbrev pub repeated : {A : Type 0} → (Token → Bool) → Form A → Form (List A)
-repeated starts f = record { Spells = Repeats f.Spells; read = λ ts. read_within (length ts) starts f.read ts }
+abbrev pub many : {A : Type 0} → (Token → Bool) → Form A → Form (List A)
+many starts f = record { Spells = Repeats f.Spells; read = λ ts. read_within (length ts) starts f.read ts }
 
 -- `f {, f}`
-abbrev pub listed : {A : Type 0} → Form A → Form (List A)
-listed f = do
+abbrev pub list_of : {A : Type 0} → Form A → Form (List A)
+list_of f = do
   x ← f
-  xs ← repeated (is_mark 44) (mark 44 >> f)
+  xs ← many (is_mark 44) (mark 44 >> f)
   give (x ∷ xs)
 
 -- how a list with commas is read, from how its items are
 abbrev pub read_next : {A : Type 0} → (List Token → Progress A) → List Token → Progress A
 read_next item ts = and_read ((mark 44).read ts) (λ _ rest. item rest)
 
-abbrev pub read_listed : {A : Type 0} → (List Token → Progress A) → List Token → Progress (List A)
-read_listed item ts = and_read (item ts) (λ x rest. and_read (read_within (length rest) (is_mark 44) (read_next item) rest) (λ xs end. Read (x ∷ xs) end))
+abbrev pub read_list : {A : Type 0} → (List Token → Progress A) → List Token → Progress (List A)
+read_list item ts = and_read (item ts) (λ x rest. and_read (read_within (length rest) (is_mark 44) (read_next item) rest) (λ xs end. Read (x ∷ xs) end))
 
 -- `f | g`, where f begins with a token that starts it, and g does not
 abbrev pub either : {A : Type 0} → (Token → Bool) → Form A → Form A → Form A

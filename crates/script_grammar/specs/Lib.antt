@@ -1,4 +1,3 @@
-pub mod Tokens
 pub mod Grammar
 pub mod Parts
 pub mod Columns

@@ -9,14 +9,14 @@ use Rattle.row_codec.specs.declared.rows.Datum.TheVariants.{Int, Bool as Truth, 
 use Rattle.row_codec.specs.declared.rows.Kind.{Kind}
 use Rattle.row_codec.specs.declared.rows.Kind.TheVariants.{Int as IntKind, Text as TextKind, Bytes as BytesKind, Bool as BoolKind}
 use Rattle.table_descriptors.specs.Names.{is_name, name_of}
-use Rattle.script_grammar.specs.Grammar.{Form, ◌>>=◌, ◌>>◌, give, one, word, mark, is_word, is_mark, repeated, listed, either, maybe_one, ending, ◌making◌, ◌or◌}
+use Rattle.script_grammar.specs.Grammar.{Form, ◌>>=◌, ◌>>◌, give, one, word, mark, is_word, is_mark, many, list_of, either, maybe_one, ending, ◌making◌, ◌or◌}
 use Rattle.script_grammar.specs.Columns.{IsExact}
 use Rattle.script_grammar.specs.declared.backups.Src.{Src}
 use Rattle.script_grammar.specs.declared.backups.Src.TheVariants.{Latest, Named}
 use Rattle.script_grammar.specs.declared.backups.RestoreOption.{RestoreOption}
 use Rattle.script_grammar.specs.declared.backups.RestoreOption.TheVariants.{NewName}
-use Rattle.script_grammar.specs.declared.token.Token.{Token}
-use Rattle.script_grammar.specs.declared.token.Token.TheVariants.{Word, Number, Text, Bytes, Mark, Bad}
+use Rattle.script_tokens.specs.declared.token.Token.{Token}
+use Rattle.script_tokens.specs.declared.token.Token.TheVariants.{Word, Number, Text, Bytes, Mark, Bad}
 
 -- ---- one token
 
@@ -55,15 +55,15 @@ count_of (Mark b) = None
 count_of Bad = None
 
 -- INT | STRING | BYTES | BOOL
-abbrev pub kind_named : List ℕ → Option Kind
-kind_named w =
+abbrev pub kind_of_word : List ℕ → Option Kind
+kind_of_word w =
     if bytes_eq w (codes "int") then Some IntKind
     else (if bytes_eq w (codes "string") then Some TextKind
     else (if bytes_eq w (codes "bytes") then Some BytesKind
     else (if bytes_eq w (codes "bool") then Some BoolKind else None)))
 
 abbrev pub kind_of : Token → Option Kind
-kind_of (Word v) = kind_named v
+kind_of (Word v) = kind_of_word v
 kind_of (Number n) = None
 kind_of (Text s) = None
 kind_of (Bytes s) = None
@@ -71,15 +71,15 @@ kind_of (Mark b) = None
 kind_of Bad = None
 
 -- TRUE | FALSE | NULL
-abbrev pub datum_named : List ℕ → Option Datum
-datum_named w =
+abbrev pub datum_of_word : List ℕ → Option Datum
+datum_of_word w =
     if bytes_eq w (codes "true") then Some (Truth true)
     else (if bytes_eq w (codes "false") then Some (Truth false)
     else (if bytes_eq w (codes "null") then Some Null else None))
 
 -- a value: number | text | bytes | TRUE | FALSE | NULL
 abbrev pub datum_of : Token → Option Datum
-datum_of (Word v) = datum_named v
+datum_of (Word v) = datum_of_word v
 datum_of (Number n) = Some (Int n)
 datum_of (Text s) = Some (TextDatum s)
 datum_of (Bytes s) = Some (BytesDatum s)
@@ -96,11 +96,11 @@ time_of (Mark b) = None
 time_of Bad = None
 
 -- ASC | DESC: whether the column descends
-abbrev pub order_named : List ℕ → Option Bool
-order_named w = if bytes_eq w (codes "asc") then Some false else (if bytes_eq w (codes "desc") then Some true else None)
+abbrev pub order_of_word : List ℕ → Option Bool
+order_of_word w = if bytes_eq w (codes "asc") then Some false else (if bytes_eq w (codes "desc") then Some true else None)
 
 abbrev pub order_of : Token → Option Bool
-order_of (Word v) = order_named v
+order_of (Word v) = order_of_word v
 order_of (Number n) = None
 order_of (Text s) = None
 order_of (Bytes s) = None
@@ -124,13 +124,13 @@ table = do
 unfoldable pub row : Form (List Datum)
 row = do
   mark 40
-  values ← listed (one datum_of)
+  values ← list_of (one datum_of)
   mark 41
   give values
 
 -- AS OF SYSTEM TIME time
-unfoldable pub time_given : Form (Option Time)
-time_given = do
+unfoldable pub time_clause : Form (Option Time)
+time_clause = do
   word (codes "as")
   word (codes "of")
   word (codes "system")
@@ -140,7 +140,7 @@ time_given = do
 
 -- [AS OF SYSTEM TIME time]
 unfoldable pub asof : Form (Option Time)
-asof = either (is_word (codes "as")) time_given (give None)
+asof = either (is_word (codes "as")) time_clause (give None)
 
 -- ---- columns
 
@@ -164,7 +164,7 @@ starts_column t = is_some (new_name_of t)
 unfoldable pub columns : Form (List (List ℕ × Kind))
 columns = do
   first ← column_and_comma
-  others ← repeated starts_column column_and_comma
+  others ← many starts_column column_and_comma
   give (first ∷ others)
 
 -- name [ASC | DESC]
@@ -180,7 +180,7 @@ key = do
   word (codes "primary")
   word (codes "key")
   mark 40
-  names ← listed key_column
+  names ← list_of key_column
   mark 41
   give names
 
@@ -192,11 +192,11 @@ reference = do
   table
 
 abbrev pub references : Form (List (List ℕ × List ℕ))
-references = repeated (is_mark 44) reference
+references = many (is_mark 44) reference
 
 -- row {, row}
 abbrev pub rows : Form (List (List Datum))
-rows = listed row
+rows = list_of row
 
 -- ---- backups
 
@@ -271,7 +271,7 @@ with_table ts t = if list_any (is_table t) ts then ts else ts ++ t ∷ []
 -- tbl {, tbl}: each table once, at its first place
 unfoldable pub tables : Form (List (List ℕ × List ℕ))
 tables = do
-  ts ← listed table
+  ts ← list_of table
   give (fold with_table [] ts)
 
 -- NEW_DB_NAME = coll
@@ -287,15 +287,15 @@ abbrev pub new_name_after : Option (List ℕ) → RestoreOption → Option (List
 new_name_after before (NewName n) = Some n
 
 -- WITH option {, option}: of the options of a kind the last counts
-unfoldable pub restore_options_given : Form (Option (List ℕ))
-restore_options_given = do
+unfoldable pub options_clause : Form (Option (List ℕ))
+options_clause = do
   word (codes "with")
-  os ← listed restore_option
+  os ← list_of restore_option
   give (fold new_name_after None os)
 
 -- [WITH option {, option}]
 unfoldable pub restore_options : Form (Option (List ℕ))
-restore_options = either (is_word (codes "with")) restore_options_given (give None)
+restore_options = either (is_word (codes "with")) options_clause (give None)
 
 -- ---- the law of parts
 

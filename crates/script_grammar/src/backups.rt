@@ -3,9 +3,9 @@ ghost use Rattle.std.specs.Prelude.{◌≡◌, ◌≤◌, length, IfOk, OnOk, No
 ghost use Rattle.std.specs.List.{fold, list_any};
 ghost use Rattle.std.specs.Option.{option_copied};
 ghost use Rattle.script_grammar.specs.Grammar.{Gives, read_one};
-ghost use Rattle.script_grammar.specs.Parts.{table, collection_of, is_no_slash, slash_at, time_after, named_source, source_text, source_word, source_of, in_collection, source_in, is_table, with_table, tables, restore_option, new_name_after, restore_options_given, restore_options};
+ghost use Rattle.script_grammar.specs.Parts.{table, collection_of, is_no_slash, slash_at, time_after, named_source, source_text, source_word, source_of, in_collection, source_in, is_table, with_table, tables, restore_option, new_name_after, options_clause, restore_options};
 
-use crate::forms::{Item, begins_with_word, listed, mark, word};
+use crate::forms::{Item, begins_with_word, list_of, mark, word};
 use crate::parts::table;
 use crate::{Broken, Token};
 use mvcc_keys::{Hlc, Items, Memory, parse_time};
@@ -202,7 +202,7 @@ fn each_once(alloc: Global, tables: &[(Name, Name)]) -> Result<Vec<(Name, Name)>
 pub fn tables(alloc: Global, tokens: &[Token]) -> Result<(Items<(Name, Name)>, &[Token]), Broken>
     ensures { Gives (λ x. x.0) (λ x. x.1.now) result (tables.read tokens.now) }
 {
-    let (tables, rest) = listed::<EachTable>(alloc, tokens)?;
+    let (tables, rest) = list_of::<EachTable>(alloc, tokens)?;
     Ok((Items::from_vec(each_once(alloc, tables.as_slice())?), rest))
 }
 
@@ -251,15 +251,12 @@ fn copy_of(alloc: Global, name: Option<&Name>) -> Result<Option<Name>, Memory>
     }
 }
 
-#[tactic(auto, unfolding(crate::specs::Parts::restore_options_given))]
-fn restore_options_given(
-    alloc: Global,
-    tokens: &[Token],
-) -> Result<(Option<Name>, &[Token]), Broken>
-    ensures { Gives (λ x. x.0) (λ x. x.1.now) result (restore_options_given.read tokens.now) }
+#[tactic(auto, unfolding(crate::specs::Parts::options_clause))]
+fn options_clause(alloc: Global, tokens: &[Token]) -> Result<(Option<Name>, &[Token]), Broken>
+    ensures { Gives (λ x. x.0) (λ x. x.1.now) result (options_clause.read tokens.now) }
 {
     let rest = word(b"with", tokens)?;
-    let (options, rest) = listed::<EachOption>(alloc, rest)?;
+    let (options, rest) = list_of::<EachOption>(alloc, rest)?;
     Ok((copy_of(alloc, new_name_in(options.as_slice()))?, rest))
 }
 
@@ -269,7 +266,7 @@ pub fn restore_options(alloc: Global, tokens: &[Token]) -> Result<(Option<Name>,
     ensures { Gives (λ x. x.0) (λ x. x.1.now) result (restore_options.read tokens.now) }
 {
     if begins_with_word(b"with", tokens) {
-        return restore_options_given(alloc, tokens);
+        return options_clause(alloc, tokens);
     }
     Ok((None, tokens))
 }

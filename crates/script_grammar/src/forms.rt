@@ -1,8 +1,8 @@
 //! What forms of lines are made of: words, marks, lists, ends, and the farther of two faults.
 ghost use Rattle.std.specs.Prelude.{◌≡◌, Bool, List, length, [], ◌∷◌, ◌++◌, ◌<◌, IfOk, OnOk};
 ghost use Rattle.std.specs.Str.{bytes_eq};
-ghost use Rattle.script_grammar.specs.Grammar.{Gives, Progress, farthest, word, is_word, mark, is_mark, begins_with, read_within, read_next, read_listed, ending};
-ghost use Rattle.script_grammar.specs.declared.token.Token.{Token};
+ghost use Rattle.script_grammar.specs.Grammar.{Gives, Progress, farthest, word, is_word, mark, is_mark, begins_with, read_within, read_next, read_list, ending};
+ghost use Rattle.script_tokens.specs.declared.token.Token.{Token};
 
 use crate::{Broken, Token};
 use mvcc_keys::Memory;
@@ -113,10 +113,7 @@ fn put<T: Drop>(items: &mut Vec<T>, item: T) -> Result<(), Memory>
 }
 
 /// The part as often as it stands there.
-pub fn repeated<P: Part>(
-    alloc: Global,
-    tokens: &[Token],
-) -> Result<(Vec<P::Value>, &[Token]), Broken>
+pub fn many<P: Part>(alloc: Global, tokens: &[Token]) -> Result<(Vec<P::Value>, &[Token]), Broken>
     ensures { Gives (λ x. x.0.items) (λ x. x.1.now) result (read_within (length tokens.now) P.starts P.reads tokens.now) }
 {
     let mut found = Vec::new(alloc);
@@ -142,12 +139,15 @@ pub(crate) fn with_first<T: Drop>(first: T, others: Vec<T>) -> Result<Vec<T>, Me
 }
 
 /// A list with commas.
-pub fn listed<I: Item>(alloc: Global, tokens: &[Token]) -> Result<(Vec<I::Value>, &[Token]), Broken>
-    ensures read { Gives (λ x. x.0.items) (λ x. x.1.now) result (read_listed I.reads tokens.now) }
+pub fn list_of<I: Item>(
+    alloc: Global,
+    tokens: &[Token],
+) -> Result<(Vec<I::Value>, &[Token]), Broken>
+    ensures read { Gives (λ x. x.0.items) (λ x. x.1.now) result (read_list I.reads tokens.now) }
     ensures some { IfOk result (λ x. 0 < length x.0.items) }
 {
     let (first, rest) = I::read(alloc, tokens)?;
-    let (others, rest) = repeated::<Next<I>>(alloc, rest)?;
+    let (others, rest) = many::<Next<I>>(alloc, rest)?;
     Ok((with_first(first, others)?, rest))
 }
 

@@ -1,11 +1,9 @@
 //! The parts that forms of lines share.
 ghost use Rattle.std.specs.Prelude.{◌≡◌, false, IfOk};
 ghost use Rattle.script_grammar.specs.Grammar.{Gives, read_one, maybe_one, is_mark};
-ghost use Rattle.script_grammar.specs.Parts.{name, is_reserved, new_name_of, count_of, kind_named, kind_of, datum_named, datum_of, time_of, order_named, order_of, table, row, rows, time_given, asof, column, column_and_comma, starts_column, columns, key_column, key, reference, references};
+ghost use Rattle.script_grammar.specs.Parts.{name, is_reserved, new_name_of, count_of, kind_of_word, kind_of, datum_of_word, datum_of, time_of, order_of_word, order_of, table, row, rows, time_clause, asof, column, column_and_comma, starts_column, columns, key_column, key, reference, references};
 
-use crate::forms::{
-    Item, Part, begins_with_word, is_mark, listed, mark, repeated, with_first, word,
-};
+use crate::forms::{Item, Part, begins_with_word, is_mark, list_of, many, mark, with_first, word};
 use crate::{Broken, Token};
 use mvcc_keys::{Hlc, Items, Memory, parse_time};
 use row_codec::{Datum, Kind, Row};
@@ -50,8 +48,8 @@ pub fn count(tokens: &[Token]) -> Result<(u64, &[Token]), Broken>
     }
 }
 
-fn kind_named(word: &[u8]) -> Option<Kind>
-    ensures { result ≡ kind_named word.now }
+fn kind_of_word(word: &[u8]) -> Option<Kind>
+    ensures { result ≡ kind_of_word word.now }
 {
     if word == b"int".as_slice() {
         Some(Kind::Int)
@@ -70,7 +68,7 @@ fn kind_of(token: &Token) -> Option<Kind>
     ensures { result ≡ kind_of token.now }
 {
     match token {
-        Token::Word(found) => kind_named(found.as_bytes()),
+        Token::Word(found) => kind_of_word(found.as_bytes()),
         _ => None,
     }
 }
@@ -88,8 +86,8 @@ pub fn kind(tokens: &[Token]) -> Result<(Kind, &[Token]), Broken>
     }
 }
 
-fn datum_named(word: &[u8]) -> Option<Datum>
-    ensures { result ≡ datum_named word.now }
+fn datum_of_word(word: &[u8]) -> Option<Datum>
+    ensures { result ≡ datum_of_word word.now }
 {
     if word == b"true".as_slice() {
         Some(Datum::Bool(true))
@@ -106,7 +104,7 @@ fn datum_of(alloc: Global, token: &Token) -> Result<Option<Datum>, Memory>
     ensures { IfOk result (λ d. d ≡ datum_of token.now) }
 {
     match token {
-        Token::Word(found) => Ok(datum_named(found.as_bytes())),
+        Token::Word(found) => Ok(datum_of_word(found.as_bytes())),
         Token::Number(found) => Ok(Some(Datum::Int(*found))),
         Token::Text(found) => Ok(Some(Datum::Text(found.copy(alloc)?))),
         Token::Bytes(found) => Ok(Some(Datum::Bytes(found.copy(alloc)?))),
@@ -173,7 +171,7 @@ pub fn row(alloc: Global, tokens: &[Token]) -> Result<(Row, &[Token]), Broken>
     ensures { Gives (λ x. x.0) (λ x. x.1.now) result (row.read tokens.now) }
 {
     let rest = mark(b'(', tokens)?;
-    let (values, rest) = listed::<EachValue>(alloc, rest)?;
+    let (values, rest) = list_of::<EachValue>(alloc, rest)?;
     let rest = mark(b')', rest)?;
     Ok((Row::from_vec(values), rest))
 }
@@ -195,13 +193,13 @@ impl Item for EachRow {
 pub fn rows(alloc: Global, tokens: &[Token]) -> Result<(Items<Row>, &[Token]), Broken>
     ensures { Gives (λ x. x.0) (λ x. x.1.now) result (rows.read tokens.now) }
 {
-    let (rows, rest) = listed::<EachRow>(alloc, tokens)?;
+    let (rows, rest) = list_of::<EachRow>(alloc, tokens)?;
     Ok((Items::from_vec(rows), rest))
 }
 
-#[tactic(auto, unfolding(crate::specs::Parts::time_given))]
-fn time_given(tokens: &[Token]) -> Result<(Option<Hlc>, &[Token]), Broken>
-    ensures { Gives (λ x. x.0) (λ x. x.1.now) result (time_given.read tokens.now) }
+#[tactic(auto, unfolding(crate::specs::Parts::time_clause))]
+fn time_clause(tokens: &[Token]) -> Result<(Option<Hlc>, &[Token]), Broken>
+    ensures { Gives (λ x. x.0) (λ x. x.1.now) result (time_clause.read tokens.now) }
 {
     let rest = word(b"as", tokens)?;
     let rest = word(b"of", rest)?;
@@ -219,7 +217,7 @@ pub fn asof(tokens: &[Token]) -> Result<(Option<Hlc>, &[Token]), Broken>
     ensures { Gives (λ x. x.0) (λ x. x.1.now) result (asof.read tokens.now) }
 {
     if begins_with_word(b"as", tokens) {
-        return time_given(tokens);
+        return time_clause(tokens);
     }
     Ok((None, tokens))
 }
@@ -271,12 +269,12 @@ pub fn columns(alloc: Global, tokens: &[Token]) -> Result<(Items<(Name, Kind)>, 
     ensures { Gives (λ x. x.0) (λ x. x.1.now) result (columns.read tokens.now) }
 {
     let (first, rest) = column_and_comma(alloc, tokens)?;
-    let (others, rest) = repeated::<EachColumn>(alloc, rest)?;
+    let (others, rest) = many::<EachColumn>(alloc, rest)?;
     Ok((Items::from_vec(with_first(first, others)?), rest))
 }
 
-fn order_named(word: &[u8]) -> Option<bool>
-    ensures { result ≡ order_named word.now }
+fn order_of_word(word: &[u8]) -> Option<bool>
+    ensures { result ≡ order_of_word word.now }
 {
     if word == b"asc".as_slice() {
         Some(false)
@@ -291,7 +289,7 @@ fn order_of(token: &Token) -> Option<bool>
     ensures { result ≡ order_of token.now }
 {
     match token {
-        Token::Word(found) => order_named(found.as_bytes()),
+        Token::Word(found) => order_of_word(found.as_bytes()),
         _ => None,
     }
 }
@@ -334,7 +332,7 @@ pub fn key(alloc: Global, tokens: &[Token]) -> Result<(KeyNames, &[Token]), Brok
     let rest = word(b"primary", tokens)?;
     let rest = word(b"key", rest)?;
     let rest = mark(b'(', rest)?;
-    let (columns, rest) = listed::<EachKeyColumn>(alloc, rest)?;
+    let (columns, rest) = list_of::<EachKeyColumn>(alloc, rest)?;
     let rest = mark(b')', rest)?;
     Ok((KeyNames::from_vec(columns), rest))
 }
@@ -368,6 +366,6 @@ pub fn references(
 ) -> Result<(Items<(Name, Name)>, &[Token]), Broken>
     ensures { Gives (λ x. x.0) (λ x. x.1.now) result (references.read tokens.now) }
 {
-    let (tables, rest) = repeated::<EachReference>(alloc, tokens)?;
+    let (tables, rest) = many::<EachReference>(alloc, tokens)?;
     Ok((Items::from_vec(tables), rest))
 }

@@ -1,6 +1,0 @@
-use Rattle.std.proofs.Common.{◌≡◌, ◌++◌, drop}
-use Rattle.reply_texts.specs.Texts.{doubled}
-use Rattle.reply_texts.proofs.rows.put_doubled.Given as goal
-
-abbrev pub invariant-loop-byte : goal.invariant-loop-byte
-invariant-loop-byte l = l.text.items ++ doubled (drop l.byte-index l.bytes) ≡ l.initial.text.items ++ doubled l.bytes

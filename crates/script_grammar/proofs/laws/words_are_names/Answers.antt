@@ -1,5 +1,0 @@
-use Rattle.script_grammar.proofs.WordNames.{word_is_name}
-use Rattle.script_grammar.proofs.laws.words_are_names.Goals as goal
-
-pub returns : goal.returns
-returns c = word_is_name
