@@ -1,5 +1,5 @@
 -- A run between two reads, and at its end.
-use Rattle.std.proofs.Common.{◌≡◌, ◌≢◌, inl, inr, ℕ, ◌-◌, ◌^◌, ◌<◌, Bool, true, false, List, [], ◌++◌, Some, None, refl, sym, ap, subst, ◌∙◌, arith, append_assoc}
+use Rattle.std.proofs.Common.{◌≡◌, ◌≢◌, inl, inr, ℕ, Bool, true, false, List, [], ◌++◌, Some, None, refl, sym, ap, subst, ◌∙◌, arith, append_assoc}
 use Rattle.std.specs.Prelude.{Option}
 use Rattle.std.proofs.lemmas.List.{append-nil}
 use Rattle.outside_world.specs.Told.{told_before, before_told, AtEnd}
@@ -14,8 +14,8 @@ use Rattle.backup_run.specs.declared.stops.Stop.{Stop}
 use Rattle.backup_run.specs.declared.stops.Stop.TheVariants.{Malformed, WriteFault, DiskFault, Memory}
 use Rattle.backup_run.specs.declared.stops.Ending.{Ending}
 use Rattle.backup_run.specs.declared.stops.Ending.TheVariants.{AllDone, SomeRefused, IllFormed, ReadFault, Unwritten, DiskFailed, NoMemory}
-use Rattle.backup_run.specs.Endings.{AnswersFront, Begins, EndsBy, Answers, AnswersAtEnd, IsLast, IsWhole, IsComplete, Leads, RunsScript, ending_of, code_of, CodeCause, ReadCause, WriteCause, StoreCause, StaysLow, Completes}
-use Rattle.backup_run.specs.Run.{Here, at_of, at_first, SessionAt, StandsAt, IsHere, Fed, EndedIn, Running, AtInputEnd, Ran, written_before, outcome_of_rest, outcome_of_lines}
+use Rattle.backup_run.specs.Endings.{AnswersFront, EndsBy, Answers, AnswersAtEnd, IsLast, IsWhole, Leads, RunsScript, ending_of, code_of, CodeCause, ReadCause, WriteCause, StoreCause, StaysLow, Completes}
+use Rattle.backup_run.specs.Run.{Here, at_of, at_first, SessionAt, StandsAt, Fed, EndedIn, Running, AtInputEnd, Ran, written_before, outcome_of_rest, outcome_of_lines}
 use Rattle.backup_run.proofs.Steps.{begins_written, begins_more, met_at, here, fed_nothing, fed_fed, fed_ended}
 use Rattle.backup_run.proofs.Stepping.{leads_then, still}
 use Rattle.backup_run.proofs.Telling.{told_twice, told_nothing}

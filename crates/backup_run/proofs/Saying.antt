@@ -14,6 +14,7 @@ use Rattle.backup_run.specs.Endings.{IsLastAt, IsWholeAt, Leads}
 use Rattle.backup_run.specs.Run.{At, Here, at_of, StandsAs, IsAt, IsHere, IsHereAtLines, Goes, MayGo, SaysLine, written_before, with_refused, outcome_of_lines, outcome_of_rest}
 use Rattle.backup_run.proofs.Ends.{line-later}
 use Rattle.backup_run.proofs.Bytes.{rest_beyond, rest_newline, rest_other, rest_too_long, rest_ends, rest_nothing}
+use Rattle.list_laws.proofs.Bools.{or-false}
 
 -- ---- malformed lines
 
@@ -109,10 +110,6 @@ byte_goes_on worlds h v m b more pending text none some other is here =
 
 -- ---- the end of the input
 
-or_false : (r : Bool) → (r || false) ≡ r
-or_false true = refl
-or_false false = refl
-
 at_end : (worlds : List World) (h : Here) (v : View) (m : Option Machine) → 0 < length h.pending → IsHere worlds h v m [] → IsHereAtLines worlds h v m (Within h.pending ∷ [])
 at_end worlds h v m some here = record { stands = here.stands; ready = subst (λ (o : Outcome). IsReady m o.machine v) (rest_ends worlds (at_of h m) some) here.ready }
 
@@ -134,7 +131,7 @@ whole_at : (refused : Bool) (text : List ℕ) (m : Option Machine) (o : Outcome)
 whole_at refused text m o v is ready = (
   record {
     text_is = ap (λ (x : Outcome). x.text) is ∙ append-nil text;
-    refused_is = ap (λ (x : Outcome). x.refused) is ∙ or_false refused;
+    refused_is = ap (λ (x : Outcome). x.refused) is ∙ or-false refused;
     well_formed = ap (λ (x : Outcome). x.malformed) is;
   },
   at_last m o v (ap (λ (x : Outcome). x.machine) is) ready,

@@ -21,7 +21,7 @@ use Rattle.cluster_core.specs.Standing.{IsOwnName, MayStep, StandsFor}
 use Rattle.cluster_core.specs.Stepping.{IsReplied, IsReplyOf, Steps}
 use Rattle.cluster_core.proofs.Past.{steps-later}
 use Rattle.backup_run.specs.Endings.{IsObjectName, Leads}
-use Rattle.backup_run.specs.Run.{StandsAs, IsAnswered, IsAt, MayGo, SaysLine}
+use Rattle.backup_run.specs.Run.{StandsAs, IsAnswered, MayGo, SaysLine}
 
 -- what a command is answered, where it may step
 abbrev pub Replies : ClusterState → ClusterState → View → Reply → Command → Type 0
@@ -89,7 +89,7 @@ answers_none v command other worlds (Some m) end may = absurd may.stands
 
 -- nothing called the disk
 pub idle_cause : {T : Type 0} (x : T) (faults : ℕ) → DiskHasCause {T = T} faults faults (Ok x)
-idle_cause x faults = record { later = omega arith; capped = λ le. le; failed = λ e. cc e; kept = refl; memory = λ e. cc e }
+idle_cause x faults = record { later = omega arith; capped = λ le. le; counts = refl }
 
 -- ---- the disk
 

@@ -19,11 +19,12 @@ use Rattle.backup_run.specs.declared.stops.Stop.{Stop}
 use Rattle.backup_run.specs.declared.stops.Stop.TheVariants.{Malformed, WriteFault, DiskFault, Memory}
 use Rattle.backup_run.specs.declared.stops.Ending.TheVariants.{Unwritten, IllFormed}
 use Rattle.backup_run.specs.Endings.{AnswersFront, Begins, EndsBy, EndsLine, IsComplete, IsLast, IsLastAt, IsLineOfDisk, IsObjectName, IsWholeAt, Leads, WritesPart, done_ending, ending_of, stop_of}
-use Rattle.backup_run.specs.Run.{At, Here, at_of, StandsAs, SessionAt, StandsAt, IsHere, Fed, EndedIn, AtInputEnd, written_before, outcome_of_rest}
+use Rattle.backup_run.specs.Run.{At, Here, at_of, SessionAt, StandsAt, IsHere, Fed, EndedIn, AtInputEnd, written_before, outcome_of_rest}
 use Rattle.backup_run.proofs.Telling.{told_twice, told_nothing}
 use Rattle.backup_run.proofs.Bytes.{rest_nothing}
 use Rattle.backup_run.proofs.Saying.{BytesGo}
 use Rattle.backup_run.proofs.Stepping.{leads_then, still}
+use Rattle.list_laws.proofs.Bools.{or-false, or-true}
 
 -- ---- texts
 
@@ -60,20 +61,12 @@ any_append (x ∷ xs) ys = ap (λ (b : Bool). (x == 10) || b) (any_append xs ys)
     assoc true b c = refl
     assoc false b c = refl
 
-or_true : (b : Bool) → (b || true) ≡ true
-or_true true = refl
-or_true false = refl
-
-or_false : (b : Bool) → (b || false) ≡ b
-or_false true = refl
-or_false false = refl
-
 -- with a newline at the end all lines are whole
 lines_newline : (read : List ℕ) (b : ℕ) → b ≡ 10 → whole_lines (read ++ b ∷ []) ≡ read ++ b ∷ []
 lines_newline [] b is = let t : (b == 10) ≡ true = grind (arith, nat_tests) in rw t refl
 lines_newline (x ∷ read) b is =
     let t : (b == 10) ≡ true = grind (arith, nat_tests) in
-    let some : list_any (λ c. c == 10) (x ∷ (read ++ b ∷ [])) ≡ true = any_append (x ∷ read) (b ∷ []) ∙ ap (λ (e : Bool). list_any (λ c. c == 10) (x ∷ read) || (e || false)) t ∙ or_true (list_any (λ c. c == 10) (x ∷ read)) in
+    let some : list_any (λ c. c == 10) (x ∷ (read ++ b ∷ [])) ≡ true = any_append (x ∷ read) (b ∷ []) ∙ ap (λ (e : Bool). list_any (λ c. c == 10) (x ∷ read) || (e || false)) t ∙ or-true (list_any (λ c. c == 10) (x ∷ read)) in
     rw (some, lines_newline read b is) refl
 
 -- another byte leaves the whole lines
@@ -81,7 +74,7 @@ lines_other : (read : List ℕ) (b : ℕ) → b ≢ 10 → whole_lines (read ++ 
 lines_other [] b other = let f : (b == 10) ≡ false = grind (arith, nat_tests) in rw f refl
 lines_other (x ∷ read) b other =
     let f : (b == 10) ≡ false = grind (arith, nat_tests) in
-    let same : list_any (λ c. c == 10) (x ∷ (read ++ b ∷ [])) ≡ list_any (λ c. c == 10) (x ∷ read) = any_append (x ∷ read) (b ∷ []) ∙ ap (λ (e : Bool). list_any (λ c. c == 10) (x ∷ read) || (e || false)) f ∙ or_false (list_any (λ c. c == 10) (x ∷ read)) in
+    let same : list_any (λ c. c == 10) (x ∷ (read ++ b ∷ [])) ≡ list_any (λ c. c == 10) (x ∷ read) = any_append (x ∷ read) (b ∷ []) ∙ ap (λ (e : Bool). list_any (λ c. c == 10) (x ∷ read) || (e || false)) f ∙ or-false (list_any (λ c. c == 10) (x ∷ read)) in
     rw (same, lines_other read b other) refl
 
 -- a newline ends the line so far, and another byte goes on with it

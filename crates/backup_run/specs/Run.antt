@@ -3,6 +3,7 @@ use Rattle.std.specs.Prelude.{◌≡◌, ◌<◌, ℕ, Bool, true, false, ◌||�
 use Rattle.outside_world.specs.Told.{told_before, before_told}
 use Rattle.outside_world.specs.Disk.{View}
 use Rattle.outside_world.specs.Moments.{ChangesOnly}
+use Rattle.machine_model.specs.declared.limits.TheConstants.{SCRIPT_BYTES_MAX}
 use Rattle.machine_model.specs.Machine.{World, Machine, Stepped}
 use Rattle.machine_model.specs.Disks.{IsReady}
 use Rattle.machine_model.specs.Past.{IsLaterIn}
@@ -57,7 +58,7 @@ IsAnswered c (Some reply) (Some s) = StandsAs c (Some s.machine) × IsReplyOf s.
 
 -- a run that has read nothing
 unfoldable pub at_first : Here
-at_first = record { cluster = None; pending = []; line = 1; room = 67108864; refused = false }
+at_first = record { cluster = None; pending = []; line = 1; room = SCRIPT_BYTES_MAX; refused = false }
 
 -- bytes in front of the first line
 abbrev pub put_all : List ℕ → List Line → List Line

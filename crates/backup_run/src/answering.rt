@@ -4,6 +4,7 @@ ghost use Rattle.outside_world.specs.Disk.{DiskHasCause};
 ghost use Rattle.outside_world.specs.declared.disk.DiskFault.TheVariants as outage;
 ghost use Rattle.outside_world.specs.Moments.{ChangesOnly};
 ghost use Rattle.reply_texts.specs.declared.replies.Response.{Response};
+ghost use Rattle.machine_model.specs.declared.limits.TheConstants.{SCRIPT_BYTES_MAX};
 ghost use Rattle.machine_model.specs.Machine.{World, Machine};
 ghost use Rattle.machine_model.specs.Disks.{IsReady};
 ghost use Rattle.machine_model.specs.Step.{step};
@@ -15,6 +16,7 @@ ghost use Rattle.backup_run.specs.Run.{SaysLine, HasStepped, IsAnswered, IsAt, M
 
 use cluster_core::{Cluster, Limits, RunFault};
 use command_lang::{Command, LineFault, parse_line};
+use machine_model::{EVENTS_MAX, TABLES_MAX};
 use mvcc_keys::{Hlc, Memory};
 use outside_world::{Disk, DiskFault};
 use reply_texts::Reply;
@@ -38,14 +40,14 @@ fn first_cluster(alloc: Global, name: Name) -> Result<Cluster, Memory>
     ensures ended { IfOk result (λ c. c.ended ≡ false) }
 {
     let limits = Limits {
-        events: 1_000_000,
-        tables: 4_096,
+        events: EVENTS_MAX,
+        tables: TABLES_MAX,
     };
     Cluster::new(alloc, name, Hlc::zero(), limits)
 }
 
 /// The text of a reply.
-fn reply_said(reply: Reply) -> Said
+fn say_reply(reply: Reply) -> Said
     ensures { (m : Option Machine) (response : Response) → IsReplyOf response reply → SaysLine m result.malformed result.refused result.text.items (λ (o : Outcome). after_reply response o) (λ o. o) }
 {
     Said {
@@ -56,13 +58,13 @@ fn reply_said(reply: Reply) -> Said
 }
 
 /// Executes a command by a cluster that no command has ended.
-fn stepped<D: Disk>(
+fn step_cluster<D: Disk>(
     cluster: &mut Cluster,
     disk: &mut D,
     command: &Command,
 ) -> Result<Reply, DiskFault>
     requires going { cluster.old.ended ≡ false }
-    requires few { cluster.old.steps < 67108864 }
+    requires few { cluster.old.steps < SCRIPT_BYTES_MAX }
     requires stands { (m : Machine) × StandsFor cluster.old m }
     ensures step { (worlds : List World) (m end : Machine) → MayStep cluster.old m (step worlds m command.now) end (D.view disk.old) → IfOk result (λ r. IsReplied cluster.new r (step worlds m command.now)) }
     ensures ready { (worlds : List World) (m end : Machine) → MayStep cluster.old m (step worlds m command.now) end (D.view disk.old) → OnOk result (IsReady (Some (step worlds m command.now).machine) (Some end) (D.view disk.new)) }
@@ -77,6 +79,7 @@ fn stepped<D: Disk>(
         Ok(reply) => Ok(reply),
         Err(RunFault::Disk) => Err(DiskFault::Failed),
         Err(RunFault::Memory) => Err(DiskFault::Memory),
+        // the session drops a cluster that ended
         Err(RunFault::Ended) => unreachable!(),
     }
 }
@@ -92,7 +95,7 @@ fn execute<D: Disk>(
 ) -> Result<Option<Reply>, DiskFault>
     requires stepped { HasStepped cluster.old number }
     requires first { 0 < number }
-    requires few { number ≤ 67108864 }
+    requires few { number ≤ SCRIPT_BYTES_MAX }
     ensures step { (worlds : List World) (m end : Option Machine) → MayGo cluster.old m (machine_of (command_step worlds m command.now)) end (D.view disk.old) → IfOk result (λ r. IsAnswered cluster.new r (command_step worlds m command.now)) }
     ensures ready { (worlds : List World) (m end : Option Machine) → MayGo cluster.old m (machine_of (command_step worlds m command.now)) end (D.view disk.old) → OnOk result (IsReady (machine_of (command_step worlds m command.now)) end (D.view disk.new)) }
     ensures leads { (worlds : List World) (m end : Option Machine) → MayGo cluster.old m (machine_of (command_step worlds m command.now)) end (D.view disk.old) → Leads end (D.view disk.old) (D.view disk.new) }
@@ -102,13 +105,13 @@ fn execute<D: Disk>(
     ensures disk { IfErr result (λ e. e ≡ outage.Failed → (is_none cluster.old ≡ false) × (is_of_disk command.now ≡ true)) }
 {
     match cluster {
-        Some(known) => Ok(Some(stepped(known, disk, command)?)),
+        Some(known) => Ok(Some(step_cluster(known, disk, command)?)),
         None => {
             let Command::Cluster { name } = command else {
                 return Ok(None);
             };
             let mut made = first_cluster(alloc, name.copy(alloc)?)?;
-            let reply = stepped(&mut made, disk, command)?;
+            let reply = step_cluster(&mut made, disk, command)?;
             *cluster = Some(made);
             Ok(Some(reply))
         }
@@ -124,7 +127,7 @@ fn malformed_line(alloc: Global, line: u32, column: usize) -> Result<Vec<u8>, Me
 }
 
 /// The last words of a script with a malformed line.
-pub fn malformed_said(alloc: Global, line: u32, column: usize) -> Result<Said, Memory>
+pub fn say_malformed(alloc: Global, line: u32, column: usize) -> Result<Said, Memory>
     ensures text { IfOk result (λ said. said.text.items ≡ malformed_text line column) }
     ensures malformed { IfOk result (λ said. said.malformed ≡ true) }
     ensures refused { IfOk result (λ said. said.refused ≡ false) }
@@ -137,7 +140,7 @@ pub fn malformed_said(alloc: Global, line: u32, column: usize) -> Result<Said, M
 }
 
 /// Executes a command, and says its reply.
-fn command_said<D: Disk>(
+fn say_command<D: Disk>(
     alloc: Global,
     cluster: &mut Option<Cluster>,
     disk: &mut D,
@@ -146,7 +149,7 @@ fn command_said<D: Disk>(
 ) -> Result<Said, DiskFault>
     requires stepped { HasStepped cluster.old number }
     requires first { 0 < number }
-    requires few { number ≤ 67108864 }
+    requires few { number ≤ SCRIPT_BYTES_MAX }
     ensures said { (worlds : List World) (m end : Option Machine) → MayGo cluster.old m (machine_of (command_step worlds m command.now)) end (D.view disk.old) → IfOk result (λ said. SaysLine (machine_of (command_step worlds m command.now)) said.malformed said.refused said.text.items
         (λ (o : Outcome). reply_before number (response_of (command_step worlds m command.now)) o) (λ o. o)) }
     ensures at { (worlds : List World) (m end : Option Machine) → MayGo cluster.old m (machine_of (command_step worlds m command.now)) end (D.view disk.old) → OnOk result (IsAt cluster.new (machine_of (command_step worlds m command.now)) end (D.view disk.new)) }
@@ -157,12 +160,12 @@ fn command_said<D: Disk>(
     ensures disk { IfErr result (λ e. e ≡ outage.Failed → (is_none cluster.old ≡ false) × (is_of_disk command.now ≡ true)) }
 {
     match execute(alloc, cluster, disk, number, command)? {
-        Some(reply) => Ok(reply_said(reply)),
-        None => Ok(malformed_said(alloc, number, 1)?),
+        Some(reply) => Ok(say_reply(reply)),
+        None => Ok(say_malformed(alloc, number, 1)?),
     }
 }
 
-pub fn nothing_said(alloc: Global) -> Said
+pub fn say_nothing(alloc: Global) -> Said
     ensures text { result.text.items ≡ [] }
     ensures malformed { result.malformed ≡ false }
     ensures refused { result.refused ≡ false }
@@ -182,7 +185,7 @@ fn is_first(cluster: &Option<Cluster>) -> bool
 }
 
 /// Reads a line and executes it.
-pub fn line_said<D: Disk>(
+pub fn say_line<D: Disk>(
     alloc: Global,
     cluster: &mut Option<Cluster>,
     disk: &mut D,
@@ -191,7 +194,7 @@ pub fn line_said<D: Disk>(
 ) -> Result<Said, DiskFault>
     requires stepped { HasStepped cluster.old number }
     requires first { 0 < number }
-    requires few { number ≤ 67108864 }
+    requires few { number ≤ SCRIPT_BYTES_MAX }
     ensures said { (worlds : List World) (m end : Option Machine) → MayGo cluster.old m (machine_after worlds m (read_at m line.now)) end (D.view disk.old) → IfOk result (λ said. SaysLine (machine_after worlds m (read_at m line.now)) said.malformed said.refused said.text.items
         (λ (o : Outcome). reading_before worlds number m (read_at m line.now) o) (λ o. o)) }
     ensures at { (worlds : List World) (m end : Option Machine) → MayGo cluster.old m (machine_after worlds m (read_at m line.now)) end (D.view disk.old) → OnOk result (IsAt cluster.new (machine_after worlds m (read_at m line.now)) end (D.view disk.new)) }
@@ -203,9 +206,9 @@ pub fn line_said<D: Disk>(
 {
     let first = is_first(cluster);
     match parse_line(alloc, line, first) {
-        Ok(None) => Ok(nothing_said(alloc)),
-        Ok(Some(command)) => command_said(alloc, cluster, disk, number, &command),
-        Err(LineFault::Wrong { column }) => Ok(malformed_said(alloc, number, column)?),
+        Ok(None) => Ok(say_nothing(alloc)),
+        Ok(Some(command)) => say_command(alloc, cluster, disk, number, &command),
+        Err(LineFault::Wrong { column }) => Ok(say_malformed(alloc, number, column)?),
         Err(LineFault::Memory) => Err(DiskFault::Memory),
     }
 }

@@ -9,6 +9,3 @@ mod top;
 mod writing;
 
 pub use top::{Status, run};
-
-#[cfg(test)]
-mod tests;

@@ -5,12 +5,12 @@ ghost use Rattle.outside_world.specs.declared.disk.DiskFault.TheVariants as outa
 ghost use Rattle.outside_world.specs.Moments.{ChangesOnly};
 ghost use Rattle.machine_model.specs.Machine.{World, Machine};
 ghost use Rattle.machine_model.specs.Script.{Line, Within};
-ghost use Rattle.cluster_core.specs.Standing.{StandsFor};
 ghost use Rattle.backup_run.specs.Endings.{IsLastAt, IsLineOfDisk, IsObjectName, IsWholeAt, Leads};
 ghost use Rattle.backup_run.specs.Run.{at_first, at_of, IsHere, IsHereAtLines, Goes, outcome_of_lines, outcome_of_rest};
 
-use crate::answering::{Said, line_said, malformed_said, nothing_said};
+use crate::answering::{Said, say_line, say_malformed, say_nothing};
 use cluster_core::Cluster;
+use machine_model::SCRIPT_BYTES_MAX;
 use outside_world::{Disk, DiskFault};
 use std::alloc::Global;
 use std::marker::Model;
@@ -49,7 +49,7 @@ fn either(a: bool, b: bool) -> bool
 }
 
 impl Session {
-    /// A run that has read nothing, of a script of at most 67,108,864 bytes.
+    /// A run that has read nothing.
     #[tactic(auto, unfolding(crate::specs::Run::at_first))]
     pub fn new(alloc: Global) -> Session
         ensures { result ≡ at_first }
@@ -59,24 +59,7 @@ impl Session {
             cluster: None,
             pending: Vec::new(alloc),
             line: 1,
-            room: 67_108_864,
-            refused: false,
-        }
-    }
-
-    /// A run in which a cluster was made already, by a line before this one.
-    #[cfg(test)]
-    pub(crate) fn with_cluster(alloc: Global, cluster: Cluster) -> Session
-        requires fresh { cluster.steps ≡ 0 }
-        requires going { cluster.ended ≡ false }
-        requires stands { (m : Machine) × StandsFor cluster m }
-    {
-        Session {
-            alloc,
-            cluster: Some(cluster),
-            pending: Vec::new(alloc),
-            line: 2,
-            room: 67_108_863,
+            room: SCRIPT_BYTES_MAX,
             refused: false,
         }
     }
@@ -110,7 +93,7 @@ impl Session {
         ensures cause { DiskHasCause (D.view disk.old).faults (D.view disk.new).faults result }
         ensures disk { IfErr result (λ e. e ≡ outage.Failed → IsLineOfDisk self.old.pending) }
     {
-        let said = match line_said(
+        let said = match say_line(
             self.alloc,
             &mut self.cluster,
             disk,
@@ -146,18 +129,18 @@ impl Session {
     {
         if self.room == 0 {
             let column = self.pending.as_slice().len() + 1;
-            return Ok(malformed_said(self.alloc, self.line, column)?);
+            return Ok(say_malformed(self.alloc, self.line, column)?);
         }
         if byte == b'\n' {
             self.room -= 1;
             return self.end_line(disk);
         }
         if self.pending.len() == 65_536 {
-            return Ok(malformed_said(self.alloc, self.line, 65_537)?);
+            return Ok(say_malformed(self.alloc, self.line, 65_537)?);
         }
         self.room -= 1;
         self.pending.push(byte)?;
-        Ok(nothing_said(self.alloc))
+        Ok(say_nothing(self.alloc))
     }
 
     /// Takes the end of the input, which may end a line.
@@ -174,6 +157,6 @@ impl Session {
         if self.is_amid_line() {
             return self.end_line(disk);
         }
-        Ok(nothing_said(self.alloc))
+        Ok(say_nothing(self.alloc))
     }
 }

@@ -14,6 +14,9 @@ use mvcc_keys::{Memory, Text};
 use outside_world::{Disk, Sink, Source};
 use std::alloc::Global;
 
+/// The most bytes of a read.
+const READ_BYTES_MAX: usize = 65_536;
+
 fn done_ending(refused: bool) -> Ending
     ensures { result ≡ done_ending refused }
 {
@@ -87,7 +90,7 @@ fn run_script<S: Source, K: Sink, D: Disk>(
     ensures stored { StoreCause (D.view disk.old).faults (D.view disk.new).faults result }
 {
     let mut session = Session::new(alloc);
-    match make_room(alloc, 65_536) {
+    match make_room(alloc, READ_BYTES_MAX) {
         Ok(mut room) => run_session(&mut session, room.as_mut_slice(), source, sink, disk),
         Err(_) => Ending::NoMemory,
     }

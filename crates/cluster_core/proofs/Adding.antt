@@ -3,9 +3,10 @@ use Rattle.std.proofs.Common.{◌≡◌, inl, inr, ℕ, ◌+◌, nat_lt, refl, s
 use Rattle.mvcc_keys.specs.Times.{Time, next}
 use Rattle.row_codec.specs.declared.rows.Kind.{Kind}
 use Rattle.table_descriptors.specs.Descriptors.{Schema, key_kinds}
-use Rattle.fact_model.specs.Facts.{Has, date}
+use Rattle.fact_model.specs.Facts.{date}
+use Rattle.list_laws.specs.Members.{Has}
 use Rattle.history_model.specs.Rows.{RowFact}
-use Rattle.history_model.specs.Histories.{Table, Found}
+use Rattle.history_model.specs.Histories.{Table}
 use Rattle.version_store.specs.MapHolding.{KeepsAll}
 use Rattle.version_store.specs.declared.mvcc_map.MvccMap.{MvccMap}
 use Rattle.table_rows.specs.declared.faults.RowsFault.{RowsFault}
@@ -24,7 +25,7 @@ use Rattle.layer_objects.specs.Objects.{rows_of, table_kinds, by_id}
 use Rattle.cluster_core.specs.Standing.{Keeps, machine_of, IsStepped, Refuses}
 use Rattle.cluster_core.proofs.Tables.{by_id-at}
 use Rattle.cluster_core.proofs.Kept.{next-later, in_force-has, grown, keeps-more, may-add}
-use Rattle.cluster_core.proofs.Looking.{Sees, sees}
+use Rattle.cluster_core.proofs.Looking.{Sees, found_by, sees}
 use Rattle.cluster_core.proofs.Flow.{draws, missing, finds, passes, stops, does}
 
 module _ (name : List ℕ × List ℕ) (fault : Schema → Option RowsFault) (facts : Schema → Time → List RowFact) (answer : Time → Answer) where
@@ -34,14 +35,11 @@ module _ (name : List ℕ × List ℕ) (fault : Schema → Option RowsFault) (fa
   pub adds-missing : (c : ClusterState) (t : Time) → next c.clock ≡ Some t → found_in c.schemas name t ≡ None → Refuses c means (NoSuchTable name)
   adds-missing c t draw e tables k = draws (machine_of c tables) _ t draw ∙ missing c tables name t _ k e
 
-  abbrev found : (tables : List Table) (t : Time) (id : ℕ) (d : Schema) → Sees tables name t id d → Found
-  found tables t id d w = record { place = w.place; table = w.table; schema = d }
-
   abbrev tests : (c : ClusterState) (tables : List Table) (t : Time) (d : Schema) → List (Option Refusal)
   tests c tables t d = offline_refusal name d ∷ rows_refusal (fault d) ∷ room_refusal (machine_of c tables) (length (facts d t)) ∷ []
 
   reach : (c : ClusterState) (tables : List Table) (t : Time) (id : ℕ) (d : Schema) → next c.clock ≡ Some t → Keeps c tables → (w : Sees tables name t id d)
-      → means (machine_of c tables) ≡ judged (machine_of c tables) (tests c tables t d) (answered (with_rows (machine_of c tables) (found tables t id d w) (facts d t) t) (answer t))
+      → means (machine_of c tables) ≡ judged (machine_of c tables) (tests c tables t d) (answered (with_rows (machine_of c tables) (found_by name tables t id d w) (facts d t) t) (answer t))
   reach c tables t id d draw k w = draws (machine_of c tables) _ t draw ∙ finds c tables name t id d _ k w
 
   pub adds-offline : (c : ClusterState) (t : Time) (id : ℕ) (d : Schema) → next c.clock ≡ Some t → found_in c.schemas name t ≡ Some (id, d)

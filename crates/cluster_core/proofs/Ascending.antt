@@ -9,13 +9,13 @@ use Rattle.mvcc_keys.specs.Times.{Time, time_le}
 use Rattle.table_descriptors.specs.Descriptors.{IsProperSchema, Schema}
 use Rattle.table_descriptors.specs.Fields.{EachAfter}
 use Rattle.table_descriptors.proofs.ListLaws.{last-push}
-use Rattle.fact_model.specs.Facts.{Has}
+use Rattle.list_laws.proofs.Members.{reverse-has}
+use Rattle.list_laws.specs.Members.{Has}
 use Rattle.history_model.specs.Histories.{in_force}
 use Rattle.introduced_spans.specs.Publicity.{is_public}
 use Rattle.layer_manifest.specs.declared.manifest.Manifest.{Manifest}
 use Rattle.layer_manifest.specs.declared.manifest.TablePart.{TablePart}
 use Rattle.layer_manifest.specs.Manifests.{IsNextTable, IsProperManifest, comes_after, is_next_descriptor, part_id}
-use Rattle.layer_objects.proofs.Final.{reverse-has}
 use Rattle.key_rewriter.specs.Ids.{are_ascending, ascends_from}
 use Rattle.id_remap.specs.Remapping.{ids_of}
 use Rattle.machine_model.specs.Restores.{chosen_by, if_chosen}
@@ -44,7 +44,7 @@ chosen-same database x d e = by (is_public x && bytes_eq x.database database) e
     by false f = cc f
 
 -- and is among them
-chosen-has : (database : List ℕ) (t : Time) (ds : List Schema) (d : Schema) → chosen_by database t ds ≡ Some d → Has d ds
+pub chosen-has : (database : List ℕ) (t : Time) (ds : List Schema) (d : Schema) → chosen_by database t ds ≡ Some d → Has d ds
 chosen-has database t ds d e = by (in_force ds t) refl e
   where
     by : (o : Option Schema) → in_force ds t ≡ o → option_and_then (if_chosen database) o ≡ Some d → Has d ds

@@ -9,7 +9,8 @@ use Rattle.std.proofs.lemmas.Result.{err_from_is_err_and}
 use Rattle.mvcc_keys.specs.Times.{Time, time_le, time_lt, zero_time}
 use Rattle.table_descriptors.specs.declared.scopes.Scope.{Scope}
 use Rattle.table_descriptors.specs.Descriptors.{IsProperSchema, Schema}
-use Rattle.fact_model.specs.Facts.{Has}
+use Rattle.list_laws.specs.Members.{Has}
+use Rattle.mvcc_keys.proofs.TimeOrder.{le-lt-lt, zero-le}
 use Rattle.history_model.specs.Rows.{RowFact}
 use Rattle.history_model.specs.Histories.{Table, schemas_of}
 use Rattle.schema_catalog.specs.Catalogs.{Schemas}
@@ -41,8 +42,6 @@ use Rattle.cluster_core.specs.Halting.{halt_of}
 use Rattle.cluster_core.specs.Standing.{Keeps, RefusedBy, machine_of}
 use Rattle.cluster_core.specs.Backing.{IsFullJob, layer_refusal}
 use Rattle.cluster_core.proofs.Tables.{by_id-at}
-use Rattle.fact_model.proofs.TimeLaws.{lt-weaker}
-use Rattle.cluster_core.proofs.Kept.{zero-least}
 
 -- ---- tests
 
@@ -136,7 +135,7 @@ full-job c tables k collection scope end n p job passed name-is form plan-is-p j
       from_one = omega arith;
       start = refl;
       floor = refl;
-      ends = lt-weaker zero_time (last_full m collection) end (zero-least (last_full m collection)) (not-le end (last_full m collection) _ (first-passed (end_refusal m collection end) (plan_refusal m scope end ∷ []) passed).0);
+      ends = le-lt-lt zero_time (last_full m collection) end (zero-le (last_full m collection)) (not-le end (last_full m collection) _ (first-passed (end_refusal m collection end) (plan_refusal m scope end ∷ []) passed).0);
       full = refl;
       history = refl;
       scope = scoped;

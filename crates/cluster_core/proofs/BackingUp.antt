@@ -40,6 +40,10 @@ use Rattle.cluster_core.specs.Standing.{HaltCounts, HaltHasCause, IsOwnName, Kee
 use Rattle.cluster_core.specs.Backing.{IsFullJob, StandsStill, done_of, layer_refusal, with_backup, with_job}
 use Rattle.cluster_core.proofs.Storing.{answer-is, done-ready, failed, few, is-among-layers, is-writing, made, only-disk}
 
+-- the disk is ready for the machine of the tables that the cluster has
+pub ready-over : {c : ClusterState} {m to : Machine} {s : Stepped} {v : View} (may : MayStep c m s to v) → IsReady (Some (machine_of c may.stands.tables)) (Some to) v
+ready-over {c} {m} {to} {s} {v} may = subst (λ (x : Machine). IsReady (Some x) (Some to) v) may.stands.machine_is may.ready
+
 -- ---- commands that do nothing to the disk
 
 pub idle-same : (a b : View) → IsSameContent a b → IsIdle a b
@@ -159,21 +163,18 @@ module _ (c : ClusterState) (collection : List ℕ) (scope : Scope) (end clock :
           let is-made = layer-made (machine_of c s.tables) collection scope end clock (full s.tables s.keeps).passed in
           subst (λ (x : Stepped). IsLater x.machine to) is-made (subst (λ (x : Machine). IsLater (means x).machine to) s.machine_is may.later)
 
-      ready-of : (m to : Machine) (may : MayStep c m (means m) to first) → IsReady (Some (machine_of c may.stands.tables)) (Some to) first
-      ready-of m to may = subst (λ (x : Machine). IsReady (Some x) (Some to) first) may.stands.machine_is may.ready
-
       writes : (m to : Machine) (may : MayStep c m (means m) to first) → RunWrites older_manifest (setting_of to) (objects_of may.stands.tables (full_layer (machine_of c may.stands.tables) collection scope end)) (completed (bytes_of (rows_of may.stands.tables)) job) result next first now
       writes m to may =
           let s = may.stands in
           disk (bytes_of (rows_of s.tables)) (holds s.tables s.keeps) older_manifest (setting_of to) _
-          (is-among-layers c s.tables s.keeps s.backups collection scope end clock within on job (full s.tables s.keeps) to first (ready-of m to may) (later-of m to may))
-          (is-writing c s.tables s.keeps s.backups collection scope end clock within on job (full s.tables s.keeps) to first (ready-of m to may) (later-of m to may))
+          (is-among-layers c s.tables s.keeps s.backups collection scope end clock within on job (full s.tables s.keeps) to first (ready-over may) (later-of m to may))
+          (is-writing c s.tables s.keeps s.backups collection scope end clock within on job (full s.tables s.keeps) to first (ready-over may) (later-of m to may))
 
       -- the layer is open already
       idle : (m to : Machine) → MayStep c m (means m) to first → IsDone to first.objects → IsIdle first now
       idle m to may done =
           let s = may.stands in
-          let among = is-among-layers c s.tables s.keeps s.backups collection scope end clock within on job (full s.tables s.keeps) to first (ready-of m to may) (later-of m to may) in
+          let among = is-among-layers c s.tables s.keeps s.backups collection scope end clock within on job (full s.tables s.keeps) to first (ready-over may) (later-of m to may) in
           idle-same first now ((writes m to may).calm (done _ among.started).0)
 
       -- the disk failed, or memory was wanting
@@ -191,7 +192,7 @@ module _ (c : ClusterState) (collection : List ℕ) (scope : Scope) (end clock :
       fault-runs new fault e is-err of-disk m to may =
           let s = may.stands in
           let ok = (subst (λ (x : Result (Unit {0}) DirFault). IfErr x IsDiskFault) is-err
-          (only-disk c s.tables s.keeps s.backups collection scope end clock within on job (full s.tables s.keeps) to first (ready-of m to may) (later-of m to may) result next now (writes m to may))) in
+          (only-disk c s.tables s.keeps s.backups collection scope end clock within on job (full s.tables s.keeps) to first (ready-over may) (later-of m to may) result next now (writes m to may))) in
           subst (λ (y : Halt). Runs new (means m) to (Err y) first now) (sym (of-disk ok)) (fault-ends new m to may fault ok)
 
       pub done-runs : (u : Unit {0}) → result ≡ Ok u → IsWhole → (new : ClusterState) → new ≡ with_backup dated next → (a : Answer) → a ≡ done_of next.name next.manifest → (m to : Machine) → MayStep c m (means m) to first → Runs new (means m) to (Ok a) first now
@@ -203,7 +204,7 @@ module _ (c : ClusterState) (collection : List ℕ) (scope : Scope) (end clock :
           let is-made = ap means s.machine_is ∙ layer-made x collection scope end clock j.passed in
           let known = still_known may.ready.known run.changes.kind in
           let stands = run.moments.each now.objects (counts first.moment now.objects known run.moments.later (as_read now)) in
-          let ready = done-ready c s.tables s.keeps s.backups collection scope end clock within on job j to first (ready-of m to may) (later-of m to may) now run.changes
+          let ready = done-ready c s.tables s.keeps s.backups collection scope end clock within on job j to first (ready-over may) (later-of m to may) now run.changes
           (subst (λ (y : Result (Unit {0}) DirFault). OnOk y (IsWritten older_manifest (objects_of s.tables (full_layer x collection scope end)) now)) is-ok run.is_written) stands in
           record {
             responds = (

@@ -10,9 +10,9 @@ use Rattle.history_model.specs.Histories.{Table, in_force, schemas_of}
 use Rattle.history_model.specs.Layers.{Layer}
 use Rattle.schema_catalog.specs.Catalogs.{history_of}
 use Rattle.introduced_spans.specs.Publicity.{is_public, public_at}
-use Rattle.introduced_spans.specs.Spans.{descriptors_of, is_member, is_member_over, members_of, scope_ids, table_plan}
+use Rattle.introduced_spans.specs.Spans.{descriptors_of, is_member, is_member_over, members_of, scope_ids, table_plan, layer_descriptors}
 use Rattle.layer_manifest.specs.declared.manifest.TablePart.{TablePart}
-use Rattle.backup_job.specs.Contents.{layer_descriptors, part_of, with_each}
+use Rattle.backup_job.specs.Contents.{part_of, with_each}
 use Rattle.backup_job.specs.Jobs.{remaining}
 use Rattle.mvcc_keys.specs.declared.entries.Entry.{Entry}
 use Rattle.table_rows.specs.RowTables.{bytes_of}

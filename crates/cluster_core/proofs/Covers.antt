@@ -2,13 +2,13 @@
 use Rattle.std.proofs.Common.{◌≡◌, inl, inr, ℕ, zero, suc, Bool, true, false, cond, ◌&&◌, ◌||◌, refl, sym, ap, ap₂, subst, ◌∙◌, List, [], ◌∷◌, map, filter, Option, Some, None, slice_get, filter_map, option_map, true≢false}
 use Rattle.std.specs.List.{cons_option, find}
 use Rattle.std.proofs.lemmas.Option.{slice_get-map}
-use Rattle.mvcc_keys.specs.Times.{Time, time_le, time_lt, zero_time}
+use Rattle.mvcc_keys.specs.Times.{Time, time_le, time_lt, zero_time, time_eq}
 use Rattle.history_model.specs.Histories.{Table}
 use Rattle.history_model.specs.Layers as records
-use Rattle.fact_model.specs.Facts.{Has}
-use Rattle.fact_model.proofs.Members.{filter-has}
+use Rattle.list_laws.specs.Members.{Has}
+use Rattle.list_laws.proofs.Members.{filter-has}
+use Rattle.mvcc_keys.proofs.TimeOrder.{eq-is}
 use Rattle.fact_model.proofs.Orders.{ordered-has}
-use Rattle.range_tombstones.proofs.TimeLaws.{same-is}
 use Rattle.layer_manifest.specs.declared.manifest.Manifest.{Manifest}
 use Rattle.layer_model.specs.declared.names.LayerName.{LayerName}
 use Rattle.layer_objects.specs.Objects.{name_of}
@@ -17,14 +17,14 @@ use Rattle.layer_book.specs.Books.{name_in}
 use Rattle.layer_book.specs.Subdirectories.{is_in, layers_of, place_cmp, subdirectories_of}
 use Rattle.layer_book.proofs.Carried.{layers_map, subdirectories_map}
 use Rattle.chain_resolver.specs.declared.layer.Layer.{Layer}
-use Rattle.chain_resolver.specs.Ways.{AreOrdered, adjoins, chain_to, serves, time_eq}
+use Rattle.chain_resolver.specs.Ways.{AreOrdered, adjoins, chain_to, serves}
 use Rattle.chain_resolver.specs.Cover.{reason}
 use Rattle.chain_resolver.specs.Best.{Chain as Places, best_way, candidates, cover, cover_of, is_best, is_passing, is_way, reached}
 use Rattle.script_grammar.specs.declared.backups.Src.{Src}
 use Rattle.reply_texts.specs.declared.refusals.Refusal.{Refusal}
 use Rattle.reply_texts.specs.declared.refusals.Refusal.TheVariants.{NoSuchBackup}
-use Rattle.machine_model.specs.Machine.{Backup, Stepped, refused}
-use Rattle.machine_model.specs.Backups.{source_among, with_found}
+use Rattle.machine_model.specs.Machine.{Backup, Stepped, refused, with_found}
+use Rattle.machine_model.specs.Backups.{source_among}
 use Rattle.machine_model.specs.Restores.{link_of, links_of, time_of, with_cover}
 use Rattle.cluster_core.specs.declared.chains.Chain.{Chain}
 use Rattle.cluster_core.specs.declared.halts.Halt.TheVariants.{Refused}
@@ -33,6 +33,7 @@ use Rattle.cluster_core.specs.Standing.{HasBackups, machine_of}
 use Rattle.cluster_core.specs.Backing.{AreLayersFrom}
 use Rattle.cluster_core.specs.Chains.{IsChain, IsChainFault, IsOneLayer, with_chain}
 use Rattle.cluster_core.proofs.Lists.{got-has}
+use Rattle.list_laws.proofs.Bools.{and-parts}
 
 -- ---- lists
 
@@ -127,10 +128,6 @@ find-passes p (y ∷ ys) x e = by (p y) refl e (find-passes p ys x)
     by true is e more = let same : y ≡ x = cc e in subst (λ z. p z ≡ true) same is
     by false is e more = more e
 
-both-true : (x y : Bool) → (x && y) ≡ true → (x ≡ true) × (y ≡ true)
-both-true true y e = (refl, e)
-both-true false y e = absurd (true≢false (sym e))
-
 passing : (test : Layer → Bool) (o : Option Layer) → is_passing test o ≡ true → (l : Layer) × (o ≡ Some l) × (test l ≡ true)
 passing test None e = absurd (true≢false (sym e))
 passing test (Some l) e = (l, refl, e)
@@ -139,12 +136,12 @@ no-history : (l : Layer) (t : Time) → IsPlain l → serves l t ≡ true → l.
 no-history l t plain e = by (time_eq l.end t) refl (subst (λ (h : Bool). (time_eq l.end t || (h && time_lt l.start t && time_le l.floor t && time_lt t l.end)) ≡ true) plain.history e)
   where
     by : (b : Bool) → time_eq l.end t ≡ b → (b || false) ≡ true → l.end ≡ t
-    by true is e = same-is l.end t is
+    by true is e = eq-is l.end t is
     by false is e = absurd (true≢false (sym e))
 
 none-follows : (k l : Layer) → IsPlain k → IsPlain l → time_eq k.end l.start ≡ true → ⊥
 none-follows k l plain next e =
-    let zero_end : k.end ≡ zero_time = same-is k.end l.start e ∙ next.start in
+    let zero_end : k.end ≡ zero_time = eq-is k.end l.start e ∙ next.start in
     let never : time_lt zero_time zero_time ≡ true = subst (λ (t : Time). time_lt zero_time t ≡ true) zero_end plain.ends in
     true≢false (sym never)
 
@@ -153,13 +150,13 @@ module _ (ls : List Layer) (plain : (i : ℕ) (l : Layer) → slice_get ls i ≡
   way-one [] e = absurd (true≢false (sym e))
   way-one (p ∷ []) e =
       let l = passing _ (slice_get ls p) e in
-      let b = both-true (adjoins zero_time None l.0) _ l.2 in
+      let b = and-parts (adjoins zero_time None l.0) _ l.2 in
       record { place = p; layer = l.0; alone = refl; got = l.1; ends = no-history l.0 t (plain p l.0 l.1) b.1 }
   way-one (p ∷ q ∷ ps) e =
       let l = passing _ (slice_get ls p) e in
-      let b = both-true (adjoins zero_time None l.0) _ l.2 in
+      let b = and-parts (adjoins zero_time None l.0) _ l.2 in
       let k = passing _ (slice_get ls q) b.1 in
-      let d = both-true (adjoins zero_time (Some l.0) k.0) _ k.2 in
+      let d = and-parts (adjoins zero_time (Some l.0) k.0) _ k.2 in
       absurd (none-follows l.0 k.0 (plain p l.0 l.1) (plain q k.0 k.1) d.0)
 
   cover-one : (places : List ℕ) → cover ls t ≡ Places places → IsOne ls t places
@@ -170,7 +167,7 @@ module _ (ls : List Layer) (plain : (i : ℕ) (l : Layer) → slice_get ls i ≡
       by None is e = cc e
       by (Some ps) is e =
           let same : ps ≡ places = cc e in
-          subst (IsOne ls t) same (way-one ps (both-true (is_way (chain_to t) ls ps) _ (find-passes (is_best (chain_to t) ls) (candidates ls) ps is)).0)
+          subst (IsOne ls t) same (way-one ps (and-parts (is_way (chain_to t) ls ps) _ (find-passes (is_best (chain_to t) ls) (candidates ls) ps is)).0)
 
 module _ (c : ClusterState) (tables : List Table) (b : HasBackups c tables) where
   -- the chain of a source is one own layer, which ends at the time

@@ -27,9 +27,9 @@ use Rattle.cluster_core.specs.ClusterView.{ClusterState}
 use Rattle.cluster_core.specs.Standing.{Keeps, MayStep, RefusedBy, Runs, StandsFor, machine_of}
 use Rattle.cluster_core.specs.Backing.{IsEnding, IsEndingFault}
 use Rattle.cluster_core.proofs.BackingUp.{as-returned, halted-runs, idle-none}
-use Rattle.cluster_core.proofs.Flow.{catalog-is, passes, stops}
+use Rattle.cluster_core.proofs.Flow.{catalog-is, passes, same-refused, stops}
 use Rattle.cluster_core.proofs.Kept.{next-later}
-use Rattle.fact_model.proofs.TimeLaws.{le-from_lt, le-refl}
+use Rattle.mvcc_keys.proofs.TimeOrder.{lt-le, le-refl}
 
 -- ---- runs of equal meaning
 
@@ -51,7 +51,7 @@ not-after clock t none = elim (cases_Bool (time_lt clock t)) [
 ]
 
 pub ending-within : (clock : Time) (at : Option Time) (x : Time × Time) → IsEnding clock at x → (time_le x.0 x.1 ≡ true) × (time_le clock x.1 ≡ true)
-ending-within clock None x e = (subst (λ (t : Time). time_le x.0 t ≡ true) (sym e.1) (le-refl x.0), subst (λ (t : Time). time_le clock t ≡ true) (sym e.1) (le-from_lt clock x.0 (next-later clock x.0 e.0)))
+ending-within clock None x e = (subst (λ (t : Time). time_le x.0 t ≡ true) (sym e.1) (le-refl x.0), subst (λ (t : Time). time_le clock t ≡ true) (sym e.1) (lt-le clock x.0 (next-later clock x.0 e.0)))
 ending-within clock (Some t) x e = (rw (e.1, e.2) (not-after clock t e.0), subst (λ (s : Time). time_le clock s ≡ true) (sym e.2) (le-refl clock))
 
 pub ending-is : (c : ClusterState) (m : Machine) → StandsFor c m → (at : Option Time) (x : Time × Time) (change : Time → Time → Stepped) → IsEnding c.clock at x → ending m at change ≡ change x.0 x.1
@@ -60,16 +60,13 @@ ending-is c m s (Some t) x change e =
     passes m (future_refusal m t) [] (change t m.clock) (ap (λ (k : Time). refusal_if (time_lt k t) (Future k)) (clock-is c m s) ∙ e.0)
     ∙ (ap (change t) (clock-is c m s ∙ sym e.2) ∙ ap (λ (k : Time). change k x.1) (sym e.1))
 
-refused-is : (m : Machine) (a b : Refusal) → Some a ≡ Some b → refused m a ≡ refused m b
-refused-is m a b e = let same : a ≡ b = cc e in ap (refused m) same
-
 pub ending-halted : (c : ClusterState) (at : Option Time) (change : Machine → Time → Time → Stepped) (r : Result Answer Halt) (e : Halt) → IsErrAnd r (λ y. y ≡ e) → IsEndingFault c.clock at e → (v : View) → (IsKnown v → (image : Objects) → v.left_since v.moment image → IsImage v image)
     → (m to : Machine) → MayStep c m (ending m at (change m)) to v → Runs c (ending m at (change m)) to r v v
 ending-halted c None change r e is fault v only m to may =
     let s = ending m None (change m) in
     let full : s ≡ refused m ClockFull = ap (λ (o : Option Time). with_time m o (λ t. change m t t)) (ap next (clock-is c m may.stands) ∙ fault.0) in
     as-returned (λ (x : Result Answer Halt). Runs c s to x v v) r e is
-    (halted-runs c m s to v e (Some ClockFull) (rw fault.1 refl) (λ refusal by. full ∙ refused-is m ClockFull refusal by) only may.stands may.ready)
+    (halted-runs c m s to v e (Some ClockFull) (rw fault.1 refl) (λ refusal by. full ∙ same-refused m ClockFull refusal by) only may.stands may.ready)
 ending-halted c (Some t) change r e is fault v only m to may =
     let s = ending m (Some t) (change m) in
     as-returned (λ (x : Result Answer Halt). Runs c s to x v v) r e is

@@ -82,15 +82,18 @@ passes m test tests change is = rw is refl
 pub stops : (m : Machine) (test : Option Refusal) (tests : List (Option Refusal)) (change : Stepped) (refusal : Refusal) → test ≡ Some refusal → judged m (test ∷ tests) change ≡ refused m refusal
 stops m test tests change refusal is = rw is refl
 
+pub same-refused : (m : Machine) (a b : Refusal) → Some a ≡ Some b → refused m a ≡ refused m b
+same-refused m a b e = let same : a ≡ b = cc e in ap (refused m) same
+
 pub draws : (m : Machine) (change : Time → Stepped) (t : Time) → next m.clock ≡ Some t → drawing m change ≡ change t
 draws m change t is = ap (λ (t : Option Time). with_time m t change) is
 
 pub missing : (c : ClusterState) (tables : List Table) (name : List ℕ × List ℕ) (t : Time) (change : Found → Stepped) → Keeps c tables → found_in c.schemas name t ≡ None → with_table (machine_of c tables) name t change ≡ refused (machine_of c tables) (NoSuchTable name)
-missing c tables name t change k e = ap (λ f. with_found (machine_of c tables) name f change) (misses c.schemas tables name t k.schemas e)
+missing c tables name t change k e = ap (λ (f : Option Found). with_found (machine_of c tables) (NoSuchTable name) f change) (misses c.schemas tables name t k.schemas e)
 
 pub finds : (c : ClusterState) (tables : List Table) (name : List ℕ × List ℕ) (t : Time) (id : ℕ) (d : Schema) (change : Found → Stepped) → Keeps c tables → (w : Sees tables name t id d)
     → with_table (machine_of c tables) name t change ≡ change (record { place = w.place; table = w.table; schema = d })
-finds c tables name t id d change k w = ap (λ f. with_found (machine_of c tables) name f change) w.named_is
+finds c tables name t id d change k w = ap (λ (f : Option Found). with_found (machine_of c tables) (NoSuchTable name) f change) w.named_is
 
 -- the catalog of the machine
 pub catalog-is : (c : ClusterState) (tables : List Table) → Keeps c tables → catalog_of (machine_of c tables) ≡ c.schemas

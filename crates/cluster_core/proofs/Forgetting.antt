@@ -4,12 +4,12 @@ use Rattle.std.specs.List.{find}
 use Rattle.std.proofs.lemmas.Bool.{cases_Bool}
 use Rattle.std.proofs.lemmas.Bool.Decides.{nat_tests}
 use Rattle.std.proofs.lemmas.Slice.Eq.{bytes_eq-Decides}
-use Rattle.mvcc_keys.specs.Times.{Time}
+use Rattle.mvcc_keys.specs.Times.{Time, time_eq}
 use Rattle.row_codec.proofs.KeyOrder.{both_true}
-use Rattle.fact_model.specs.Facts.{Has}
-use Rattle.fact_model.proofs.Members.{filter-has, filter-passes, has-filter, has-map}
+use Rattle.list_laws.specs.Members.{Has}
+use Rattle.list_laws.proofs.Members.{filter-has, filter-passes, has-filter, has-map}
+use Rattle.mvcc_keys.proofs.TimeOrder.{le-refl, eq-refl}
 use Rattle.fact_model.proofs.Orders.{ordered-has}
-use Rattle.fact_model.proofs.TimeLaws.{le-refl}
 use Rattle.history_model.specs.Histories.{Table}
 use Rattle.history_model.specs.Layers as recorded
 use Rattle.outside_world.specs.Disk.{View, IsImage, IsKnown}
@@ -32,14 +32,15 @@ use Rattle.collection_dir.specs.Safety.{IsForgotten, IsKept, MayForget}
 use Rattle.collection_dir.proofs.StandsLaws.{stands-throughout}
 use Rattle.layer_objects.specs.Objects.{name_of, objects_of}
 use Rattle.layer_objects.specs.Storable.{older_manifest}
+use Rattle.layer_objects.proofs.Names.{objects-name}
 use Rattle.layer_book.specs.Books.{name_in, same_name, without_layer}
-use Rattle.layer_book.specs.Subdirectories.{is_in, layers_of, place_cmp, subdirectories_of, time_eq}
+use Rattle.layer_book.specs.Subdirectories.{is_in, layers_of, place_cmp, subdirectories_of}
 use Rattle.script_grammar.specs.declared.backups.Src.{Src}
 use Rattle.reply_texts.specs.declared.refusals.Refusal.TheVariants.{NoSuchBackup, NoSuchLayer}
 use Rattle.reply_texts.specs.declared.answers.Answer.TheVariants.{Plain}
-use Rattle.machine_model.specs.Machine.{Backup, Machine, Stepped, answered, refused}
+use Rattle.machine_model.specs.Machine.{Backup, Machine, Stepped, answered, refused, with_found}
 use Rattle.machine_model.specs.Past.{IsLater}
-use Rattle.machine_model.specs.Backups.{forget, forgetting, is_between_times, layers_in, source_among, with_found}
+use Rattle.machine_model.specs.Backups.{forget, forgetting, is_between_times, layers_in, source_among}
 use Rattle.machine_model.specs.Disks.{IsDone, IsGone, IsReady, IsThere, StandsUntil, made_layers, setting_of}
 use Rattle.machine_model.proofs.DiskLaws.{ready_images}
 use Rattle.machine_model.proofs.Settings.{is-made, settings-proper}
@@ -49,7 +50,7 @@ use Rattle.cluster_core.specs.ClusterView.{ClusterState, record_of}
 use Rattle.cluster_core.specs.Halting.{halt_of_dir}
 use Rattle.cluster_core.specs.Standing.{HasBackups, IsOwnBackup, IsOwnName, Keeps, MayStep, Runs, StandsFor, machine_of}
 use Rattle.cluster_core.specs.Backing.{AreLayersFrom, IsSourceFault}
-use Rattle.cluster_core.proofs.BackingUp.{halted-runs}
+use Rattle.cluster_core.proofs.BackingUp.{halted-runs, ready-over}
 use Rattle.cluster_core.proofs.Kept.{keeps-as}
 use Rattle.cluster_core.proofs.Lists.{find-has}
 use Rattle.cluster_core.proofs.Others.{IsSameOf, still-gone, still-there}
@@ -58,13 +59,10 @@ use Rattle.cluster_core.proofs.Storing.{IsPast, got-first, has-place, own-place,
 
 -- ---- names of layers
 
-same-times : (t : Time) → time_eq t t ≡ true
-same-times t = let a : (t.wall == t.wall) ≡ true = grind (arith, nat_tests) in let b : (t.logical == t.logical) ≡ true = grind (arith, nat_tests) in rw (a, b) refl
-
 same-itself : (n : LayerName) → same_name n n ≡ true
 same-itself n =
     let jobs : (n.job == n.job) ≡ true = grind (arith, nat_tests) in
-    rw ((bytes_eq-Decides n.collection n.collection).1 refl, (bytes_eq-Decides n.cluster n.cluster).1 refl, same-times n.full, same-times n.start, same-times n.end, jobs) refl
+    rw ((bytes_eq-Decides n.collection n.collection).1 refl, (bytes_eq-Decides n.cluster n.cluster).1 refl, eq-refl n.full, eq-refl n.start, eq-refl n.end, jobs) refl
 
 other-job : (m n : LayerName) → m.job ≢ n.job → not (same_name m n) ≡ true
 other-job m n other = elim (cases_Bool (same_name m n)) [
@@ -74,10 +72,6 @@ other-job m n other = elim (cases_Bool (same_name m n)) [
       absurd (other (grind (arith, nat_tests, jobs))))
   | inr differs ↦ rw differs refl
 ]
-
-layer-name : (tables : List Table) (q : recorded.Layer) → (objects_of tables q).name ≡ name_of q
-unfolding objects_of
-layer-name tables q = refl
 
 -- forgetting changes names of the layer's parts
 part-at : (layer : LayerName) (chunks : ℕ) (w : Layer) → w.name ≡ layer → length w.chunks ≡ chunks → (n : List ℕ) → AtForget layer chunks n → IsPartName w n
@@ -212,7 +206,7 @@ module _ (c : ClusterState) (source : Src) (collection : List ℕ) (start end : 
               let o = own tables b in
               is-made to i.0 r (ap (λ xs. slice_get xs i.0) later.jobs ∙ got-first c.jobs later.more i.0 (Backup r) i.1) (record {
                 name = own-past.named;
-                own = ap (λ (n : LayerName). n.cluster) (layer-name ends r) ∙ (o.cluster ∙ sym later.name);
+                own = ap (λ (n : LayerName). n.cluster) (objects-name ends r) ∙ (o.cluster ∙ sym later.name);
                 number = (let a = own-past.number in let e = o.number in omega (arith, a, e));
                 few = own-past.few.few;
               })
@@ -221,13 +215,13 @@ module _ (c : ClusterState) (source : Src) (collection : List ℕ) (start end : 
           counted = ap (λ (x : Layer). length x.chunks) own-past.final_is ∙ (sym (b.layers p in-book).chunks ∙ sym count)
 
           within : (n : List ℕ) → AtForget p.0 chunks n → IsPartName w n
-          within n at = part-at p.0 chunks w (layer-name ends r) counted n at
+          within n at = part-at p.0 chunks w (objects-name ends r) counted n at
 
           may-forget : MayForget w (older_manifest w) p.0 chunks first
           may-forget = record {
             may = record {
               known = ready.known;
-              name = layer-name ends r;
+              name = objects-name ends r;
               few = own-past.few;
               safe = λ image is. (ready_images (Some (machine_of c tables)) (Some to) first ready image is).safe w is-started;
               gate = ready.settled _;
@@ -267,7 +261,7 @@ module _ (c : ClusterState) (source : Src) (collection : List ℕ) (start end : 
                 let i = has-place (Backup q) c.jobs has in
                 elim (cases_Bool (q.job == r.job)) [
                   | inl e ↦ (let same : q.job ≡ r.job = grind (arith, nat_tests, e) in
-                      inr (subst (λ (x : recorded.Layer). IsGone (objects_of ends x) now.objects) (sym (one-record i.0 q i.1 same)) (all-gone p.0 chunks w now.objects (layer-name ends r) counted gone)))
+                      inr (subst (λ (x : recorded.Layer). IsGone (objects_of ends x) now.objects) (sym (one-record i.0 q i.1 same)) (all-gone p.0 chunks w now.objects (objects-name ends r) counted gone)))
                   | inr e ↦ (let other : q.job ≢ r.job = grind (arith, nat_tests, e) in
                       ⊎_elim
                       (λ (old : Has q (map record_of c.book.layers)). inl (has-filter (λ x. not (same_name (name_of x) (name_of r))) q (map record_of c.book.layers) old (other-job (name_of q) (name_of r) other)))
@@ -278,9 +272,6 @@ module _ (c : ClusterState) (source : Src) (collection : List ℕ) (start end : 
             done-ready : IsSettled now → StandsUntil (Some to) now.objects → IsReady (Some (forgetting (machine_of c tables) r)) (Some to) now
             done-ready settled stands = record { known = still_known ready.known changes.kind; settled = settled; stands = stands; kept = record { there = there; gone = is-gone } }
 
-        ready-of : (m to : Machine) (may : MayStep c m (means m) to first) → IsReady (Some (machine_of c may.stands.tables)) (Some to) first
-        ready-of m to may = subst (λ (x : Machine). IsReady (Some x) (Some to) first) may.stands.machine_is may.ready
-
         is-found : (m to : Machine) (may : MayStep c m (means m) to first) → means m ≡ answered (forgetting (machine_of c may.stands.tables) r) Plain
         is-found m to may = ap means may.stands.machine_is ∙ means-found may.stands.tables
 
@@ -288,16 +279,16 @@ module _ (c : ClusterState) (source : Src) (collection : List ℕ) (start end : 
         later-of m to may = subst (λ (x : Stepped). IsLater x.machine to) (is-found m to may) may.later
 
         leaves-of : (m to : Machine) → MayStep c m (means m) to first → LeavesOnly first now (StandsUntil (Some to))
-        leaves-of m to may = let s = may.stands in moments s.tables s.keeps s.backups to (ready-of m to may) (later-of m to may)
+        leaves-of m to may = let s = may.stands in moments s.tables s.keeps s.backups to (ready-over may) (later-of m to may)
 
         -- a layer that is forgotten is none of the script's end
         not-done : (m to : Machine) (may : MayStep c m (means m) to first) → IsDone to first.objects → ⊥
         not-done m to may done =
             let s = may.stands in
-            let ready = ready-of m to may in
+            let ready = ready-over may in
             let later = later-of m to may in
             let kept = (done (w s.tables s.keeps s.backups to ready later) (is-started s.tables s.keeps s.backups to ready later)).1 in
-            let same : name_of kept.0 ≡ name_of r = kept.2 ∙ layer-name to.history.tables r in
+            let same : name_of kept.0 ≡ name_of r = kept.2 ∙ objects-name to.history.tables r in
             let i = place-of s.tables s.backups in
             let number = (own s.tables s.backups).number in
             ⊎_elim
@@ -326,7 +317,7 @@ module _ (c : ClusterState) (source : Src) (collection : List ℕ) (start end : 
                 subst (λ (y : Stepped). StandsFor new y.machine) (sym is) (subst (λ (n : ClusterState). StandsFor n (forgetting (machine_of c s.tables) r)) (sym is-new) (taken s.tables s.keeps s.backups)),
                 ap (λ (y : Stepped). y.response) is,
               );
-              ready = subst (λ (y : Stepped). IsReady (Some y.machine) (Some to) now) (sym is) (done-ready s.tables s.keeps s.backups to (ready-of m to may) (later-of m to may) changes (gone tells) (settled tells) stands);
+              ready = subst (λ (y : Stepped). IsReady (Some y.machine) (Some to) now) (sym is) (done-ready s.tables s.keeps s.backups to (ready-over may) (later-of m to may) changes (gone tells) (settled tells) stands);
               leaves = leaves;
               idle = λ done. absurd (not-done m to may done);
             }

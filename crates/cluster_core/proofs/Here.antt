@@ -1,8 +1,8 @@
 -- Commands that have nothing to do with the disk: they leave the layers and the jobs, and the disk stays ready.
 use Rattle.std.proofs.Common.{◌≡◌, ◌⊎◌, ℕ, Bool, true, arith, List, map, length, Some, slice_get, refl, sym, ap, subst, ◌∙◌, Result, Ok, Err, IfErr}
 use Rattle.mvcc_keys.specs.Times.{time_le}
-use Rattle.fact_model.specs.Facts.{Has}
-use Rattle.fact_model.proofs.TimeLaws.{le-refl, le-trans}
+use Rattle.list_laws.specs.Members.{Has}
+use Rattle.mvcc_keys.proofs.TimeOrder.{le-refl, le-trans}
 use Rattle.history_model.specs.Histories.{Table}
 use Rattle.history_model.specs.Layers.{Layer}
 use Rattle.outside_world.specs.Disk.{View, IsImage, IsKnown}
@@ -14,7 +14,6 @@ use Rattle.layer_book.specs.Books.{Book}
 use Rattle.layer_objects.specs.Objects.{objects_of}
 use Rattle.layer_objects.specs.Past.{KeepsPast}
 use Rattle.reply_texts.specs.declared.answers.Answer.{Answer}
-use Rattle.reply_texts.specs.declared.refusals.Refusal.{Refusal}
 use Rattle.machine_model.specs.Machine.{Backup, Job, Machine, Stepped, refused}
 use Rattle.machine_model.specs.Past.{IsLater}
 use Rattle.machine_model.specs.Disks.{IsGone, IsReady}
@@ -25,6 +24,7 @@ use Rattle.cluster_core.specs.ClusterView.{ClusterState, record_of}
 use Rattle.cluster_core.specs.Standing.{Does, HaltHasCause, HasBackups, HasTables, IsBooked, IsOwnBackup, Keeps, LeavesRest, MayStep, Runs, StandsFor, machine_of}
 use Rattle.cluster_core.specs.Backing.{StandsStill}
 use Rattle.cluster_core.proofs.BackingUp.{halted-runs, idle-none}
+use Rattle.cluster_core.proofs.Flow.{same-refused}
 use Rattle.cluster_core.proofs.Kept.{keeps-as}
 use Rattle.cluster_core.proofs.Others.{final}
 use Rattle.cluster_core.proofs.Storing.{has-place}
@@ -59,9 +59,6 @@ recounted c steps ended m s = record {
 }
 
 -- ---- the command
-
-same-refused : (m : Machine) (a b : Refusal) → Some a ≡ Some b → refused m a ≡ refused m b
-same-refused m a b e = let same : a ≡ b = cc e in ap (refused m) same
 
 module _ (old new : ClusterState) (meaning : Machine → Stepped) (later : (m : Machine) → IsLater m (meaning m).machine) (rest : LeavesRest old new) where
   stands-after : (tables : List Table) → Keeps old tables → HasBackups old tables → HasTables new (meaning (machine_of old tables)).machine → StandsFor new (meaning (machine_of old tables)).machine

@@ -8,7 +8,10 @@ use Rattle.std.specs.declared.cmp.Ordering.TheVariants.{Equal, Greater}
 use Rattle.std.proofs.lemmas.Bool.{and_parts}
 use Rattle.std.proofs.lemmas.Bool.Decides.{nat_tests}
 use Rattle.std.proofs.lemmas.Cmp.{nat_list_cmp_total}
-use Rattle.key_encoding.specs.Coding.{AreBytes}
+use Rattle.list_laws.specs.Bytes.{AreBytes}
+use Rattle.list_laws.specs.Members.{Has}
+use Rattle.list_laws.proofs.Members.{AllByRecursion-has, has-AllByRecursion}
+use Rattle.mvcc_keys.specs.Entries.{key_of}
 use Rattle.key_encoding.specs.Reading.{read_uvarint}
 use Rattle.key_encoding.specs.Spelling.{uvarint}
 use Rattle.key_encoding.proofs.Grammars.{uvarint-found}
@@ -26,11 +29,11 @@ use Rattle.row_codec.specs.RowOrder.{row_cmp}
 use Rattle.row_codec.proofs.KeyLaws.{some_is}
 use Rattle.mvcc_keys.specs.Times.{IsTime, Time}
 use Rattle.table_descriptors.specs.Descriptors.{Schema, key_kinds}
-use Rattle.fact_model.specs.Facts.{Put, Del, DelRange, Has, Version, newest, value, version_of}
+use Rattle.fact_model.specs.Facts.{Put, Del, DelRange, Version, newest, value, version_of}
 use Rattle.fact_model.specs.Ordered.{ordered}
 use Rattle.fact_model.specs.Scans.{keys_put, scan, version}
-use Rattle.fact_model.proofs.Members.{AllByRecursion-has, has-AllByRecursion}
-use Rattle.fact_model.proofs.Newest.{IsNewest, newest-is}
+use Rattle.fact_model.specs.Newest.{IsNewest}
+use Rattle.fact_model.proofs.Newest.{newest-is}
 use Rattle.fact_model.proofs.Scanned.{items-has}
 use Rattle.range_tombstones.specs.declared.upto.Upto.TheVariants.{At}
 use Rattle.span_export.specs.declared.plan.Plan.TheVariants.{Whole}
@@ -47,11 +50,12 @@ use Rattle.table_rows.specs.RowTables.{AreRowFacts, IsCells, bytes_of}
 use Rattle.table_rows.proofs.Coded.{keys-ordered}
 use Rattle.table_rows.proofs.KeySizes.{key-len}
 use Rattle.version_store.proofs.Bytes.{bytes_order}
-use Rattle.chunk_file.specs.Entries.{IsStored, are_ordered, comes_before, is_entry, is_row_key, key_of}
+use Rattle.chunk_file.specs.Entries.{IsStored, are_ordered, comes_before, is_entry, is_row_key}
 use Rattle.layer_objects.specs.Storable.{AreStorable, IsSized}
 use Rattle.layer_rows.specs.Putting.{AreItems, DifferInKey, IsItem, stored_put}
 use Rattle.layer_rows.specs.Reading.{AreEntriesOf}
 use Rattle.cluster_core.specs.Chains.{AreRowsOf, HasBytes, IsRowItem, are_rows, is_above, is_row, is_short, stored_rows}
+use Rattle.list_laws.proofs.Orderings.{lt-Less}
 
 -- ---- one row
 
@@ -104,11 +108,6 @@ row-passes id kinds i small is =
 
 -- ---- all rows
 
-less-is : (o : Ordering) → is_lt o ≡ true → o ≡ Less
-less-is Less e = refl
-less-is Equal e = absurd (true≢false (sym e))
-less-is Greater e = absurd (true≢false (sym e))
-
 less-trans : (a b c : List ℕ) → slice_cmp nat_cmp a b ≡ Less → slice_cmp nat_cmp b c ≡ Less → slice_cmp nat_cmp a c ≡ Less
 less-trans a b c p q = nat_list_cmp_total.trans a b c p q
 
@@ -123,7 +122,7 @@ module _ (id : ℕ) (kinds : List Kind) where
   below-all [] key e = tt
   below-all (i ∷ is) key e =
       let parts = and_parts _ (are_rows (Some (bytes-of i)) (map (stored_put id kinds) is)) e in
-      let first = less-is (slice_cmp nat_cmp key (bytes-of i)) (and_parts (is_row (stored_put id kinds i)) (is_above (Some key) (bytes-of i)) parts.0).1 in
+      let first = lt-Less (slice_cmp nat_cmp key (bytes-of i)) (and_parts (is_row (stored_put id kinds i)) (is_above (Some key) (bytes-of i)) parts.0).1 in
       (first, lift (bytes-of i) is (below-all is (bytes-of i) parts.1) first)
     where
       lift : (k : List ℕ) (js : List RowItem) → AllByRecursion (IsBelow k) js → slice_cmp nat_cmp key k ≡ Less → AllByRecursion (IsBelow key) js

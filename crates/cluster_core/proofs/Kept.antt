@@ -3,14 +3,15 @@ use Rattle.std.proofs.Common.{◌≡◌, ◌≢◌, inl, inr, ℕ, ◌+◌, ◌=
 use Rattle.std.proofs.Math.Path.{fun_ext}
 use Rattle.std.proofs.lemmas.Bool.{cases_Bool}
 use Rattle.std.proofs.lemmas.Bool.Decides.{nat_tests}
-use Rattle.std.proofs.lemmas.List.{reverse-append, map-append, length-append}
+use Rattle.std.proofs.lemmas.List.{map-append, length-append}
 use Rattle.std.proofs.lemmas.List.Sums.{sum_by-set, sum_by_push}
 use Rattle.std.proofs.lemmas.Option.{slice_get-map, slice_get_within, get_or_from_slice_get}
 use Rattle.mvcc_keys.specs.Times.{Time, time_lt, time_le, zero_time, next}
 use Rattle.table_descriptors.specs.Descriptors.{Schema, key_kinds}
-use Rattle.fact_model.specs.Facts.{Has, date}
-use Rattle.fact_model.proofs.Members.{has-append_cases}
-use Rattle.fact_model.proofs.TimeLaws.{le-refl, le-trans, le-from_lt, lt-le-absurd, lt-weaker}
+use Rattle.fact_model.specs.Facts.{date}
+use Rattle.list_laws.specs.Members.{Has}
+use Rattle.list_laws.proofs.Members.{has-append_cases, reverse-has}
+use Rattle.mvcc_keys.proofs.TimeOrder.{le-refl, le-trans, lt-le, lt-le-absurd, le-lt-lt, zero-le}
 use Rattle.row_codec.specs.declared.rows.Kind.{Kind}
 use Rattle.row_codec.proofs.KeyOrder.{both_true}
 use Rattle.introduced_spans.specs.PlanLaws.{ascend_after}
@@ -31,22 +32,12 @@ use Rattle.layer_objects.specs.Objects.{table_kinds, kinds_of, table_facts, tabl
 use Rattle.cluster_core.specs.Standing.{IsOwn, IsOrderly, Keeps, StandsFor}
 use Rattle.cluster_core.proofs.Lists.{got-set, got-set_other, map-set, set-same, got-push, find-has}
 use Rattle.cluster_core.proofs.Tables.{by_id-at, rows-same, rows-more, rows-raised, rows-new}
+use Rattle.list_laws.proofs.Options.{some-is}
 
 abbrev Stored : MvccMap → List Table → Type 0
 Stored store tables = HasRows (λ h. KeepsAll store.tables.entries h) (rows_of tables)
 
 -- ---- descriptors in force
-
-reverse-has : {X : Type 0} (xs : List X) (x : X) → Has x (reverse xs) → Has x xs
-reverse-has [] x h = h
-reverse-has (y ∷ ys) x h = elim (has-append_cases x (reverse ys) (y ∷ []) (subst (λ (zs : List _). Has x zs) (reverse-append (y ∷ []) ys) h)) [
-  | inl front ↦ inr (reverse-has ys x front)
-  | inr last ↦ first last
-]
-  where
-    first : Has x (y ∷ []) → Has x (y ∷ ys)
-    first (inl e) = inl e
-    first (inr none) = absurd none
 
 pub in_force-has : (ds : List Schema) (t : Time) (d : Schema) → in_force ds t ≡ Some d → Has d ds
 in_force-has ds t d e = reverse-has ds d (find-has (λ (x : Schema). time_le x.modified t) (reverse ds) d e)
@@ -84,9 +75,6 @@ keeps-as old new tables k schemas store events le = record {
 
 -- ---- dates
 
-pub zero-least : (t : Time) → time_le zero_time t ≡ true
-zero-least t = grind (arith, nat_tests)
-
 and-true : (a : Bool) → a ≡ true → (a && true) ≡ true
 and-true true e = refl
 and-true false e = cc e
@@ -97,15 +85,12 @@ no-push (y ∷ ys) x e = cc e
 
 -- one more descriptor, after a time that none is after
 ascend-more : (first last : Time) (ds : List Schema) (e : Schema) → time_le first last ≡ true → ascend_after first ds ≡ true → ((d : Schema) → Has d ds → time_le d.modified last ≡ true) → time_lt last e.modified ≡ true → ascend_after first (ds ++ e ∷ []) ≡ true
-ascend-more first last [] e le all dated after = and-true (time_lt first e.modified) (lt-weaker first last e.modified le after)
+ascend-more first last [] e le all dated after = and-true (time_lt first e.modified) (le-lt-lt first last e.modified le after)
 ascend-more first last (d ∷ ds) e le all dated after =
     let p = both_true (time_lt first d.modified) (ascend_after d.modified ds) all in
     rw p.0 (ascend-more d.modified last ds e (dated d (inl refl)) p.1 (λ x has. dated x (inr has)) after)
 
 -- ---- one table changes
-
-some-is : {X : Type 0} (x y : X) → Some x ≡ Some y → x ≡ y
-some-is x y e = cc e
 
 keeps-set : (old new : ClusterState) (tables : List Table) (i : ℕ) (t u : Table) → Keeps old tables → slice_get tables i ≡ Some t → schemas_of (slice_set tables i u) ≡ new.schemas.tables → Stored new.store (slice_set tables i u)
     → accepted (slice_set tables i u) ≡ new.events → time_le old.clock new.clock ≡ true → IsOrderly new.clock (100 + i) u → Keeps new (slice_set tables i u)
@@ -143,7 +128,7 @@ pub keeps-more : (c : ClusterState) (store : MvccMap) (at : Time) (tables : List
 keeps-more c store at tables i t fs k got lt dated sized has =
     let u = extended t fs in
     let o = k.orderly i t got in
-    let le : time_le c.clock at ≡ true = le-from_lt c.clock at lt in
+    let le : time_le c.clock at ≡ true = lt-le c.clock at lt in
     keeps-set c (grown c store at (length fs)) tables i t u k got
     (same-schemas tables i t u got refl ∙ k.schemas)
     (subst (HasRows (λ h. KeepsAll store.tables.entries h)) (sym (rows-more tables i t u fs got refl refl refl)) has)
@@ -189,7 +174,7 @@ pub keeps-described : (c : ClusterState) (at : Time) (tables : List Table) (i : 
 keeps-described c at tables i t d e k got lt has id kinds on =
     let u = described t e in
     let o = k.orderly i t got in
-    let le : time_le c.clock at ≡ true = le-from_lt c.clock at lt in
+    let le : time_le c.clock at ≡ true = lt-le c.clock at lt in
     let first : table_kinds u ≡ table_kinds t = front-kinds t.descriptors d e has in
     let there : slice_get c.schemas.tables i ≡ Some t.descriptors = ap (λ (xs : List (List Schema)). slice_get xs i) (sym k.schemas) ∙ (slice_get-map (λ (x : Table). x.descriptors) tables i ∙ ap (option_map (λ (x : Table). x.descriptors)) got) in
     let own = o.schemas d has in
@@ -208,7 +193,7 @@ keeps-described c at tables i t d e k got lt has id kinds on =
       threshold = le-trans t.threshold c.clock at o.threshold le;
       sized = λ f is. subst (λ (ks : List Kind). IsSized ks f) (sym first) (o.sized f is);
       dated = λ x is. elim (has-append_cases x t.descriptors (e ∷ []) is) [ inl old ↦ le-trans x.modified c.clock at (o.dated x old) le | inr new ↦ now x new ];
-      ascend = ascend-more zero_time c.clock t.descriptors e (zero-least c.clock) o.ascend o.dated (subst (λ (x : Time). time_lt c.clock x ≡ true) (sym on) lt);
+      ascend = ascend-more zero_time c.clock t.descriptors e (zero-le c.clock) o.ascend o.dated (subst (λ (x : Time). time_lt c.clock x ≡ true) (sym on) lt);
       begun = λ none. absurd (no-push t.descriptors e none);
     })
   where
@@ -257,7 +242,7 @@ keeps-push old new tables t k schemas rows events le orderly = record {
 
 pub keeps-new : (c : ClusterState) (at : Time) (tables : List Table) (d : Schema) → Keeps c tables → time_lt c.clock at ≡ true → d.id ≡ 100 + length tables → d.modified ≡ at → Keeps (redated c (with_table c.schemas d) at) (tables ++ new_table d ∷ [])
 keeps-new c at tables d k lt id on =
-    keeps-push c (redated c (with_table c.schemas d) at) tables (new_table d) k refl (rows-new (λ h. KeepsAll c.store.tables.entries h) tables (new_table d) refl refl k.rows) (omega arith) (le-from_lt c.clock at lt) first
+    keeps-push c (redated c (with_table c.schemas d) at) tables (new_table d) k refl (rows-new (λ h. KeepsAll c.store.tables.entries h) tables (new_table d) refl refl k.rows) (omega arith) (lt-le c.clock at lt) first
   where
     own : (x : Schema) → Has x (d ∷ []) → IsOwn (100 + length tables) (table_kinds (new_table d)) x
     own x (inl is) = subst (IsOwn (100 + length tables) (key_kinds d)) (sym is) (record { id_is = id; kinds_are = refl })
@@ -272,10 +257,10 @@ keeps-new c at tables d k lt id on =
       id_is = id;
       schemas = own;
       facts = λ f none. absurd none;
-      threshold = zero-least at;
+      threshold = zero-le at;
       sized = λ f none. absurd none;
       dated = now;
-      ascend = subst (λ (x : Time). ascend_after zero_time (record d { modified = x } ∷ []) ≡ true) (sym on) (and-true (time_lt zero_time at) (lt-weaker zero_time c.clock at (zero-least c.clock) lt));
+      ascend = subst (λ (x : Time). ascend_after zero_time (record d { modified = x } ∷ []) ≡ true) (sym on) (and-true (time_lt zero_time at) (le-lt-lt zero_time c.clock at (zero-le c.clock) lt));
       begun = λ none. cc none;
     }
 

@@ -1,5 +1,5 @@
 -- A change keeps the kinds of the key columns.
-use Rattle.std.proofs.Common.{◌≡◌, ◌⊎◌, inl, inr, ℕ, ◌==◌, Bool, true, false, not, ◌&&◌, ◌||◌, refl, ap, arith, List, [], ◌∷◌, ◌++◌, map, filter, Some, None, option_map, unwrap_or, if◌then◌else◌}
+use Rattle.std.proofs.Common.{◌≡◌, ◌⊎◌, inl, inr, ℕ, ◌==◌, Bool, true, false, not, ◌&&◌, refl, ap, arith, List, [], ◌∷◌, ◌++◌, map, filter, Some, None, option_map, unwrap_or, if◌then◌else◌}
 use Rattle.std.specs.List.{list_any, list_all, find}
 use Rattle.std.specs.Str.{bytes_eq}
 use Rattle.std.proofs.lemmas.Bool.Decides.{nat_tests}
@@ -10,7 +10,9 @@ use Rattle.table_descriptors.specs.declared.columns.Column.{Column}
 use Rattle.table_descriptors.specs.declared.changes.Change.{Change}
 use Rattle.table_descriptors.specs.declared.changes.Change.TheVariants.{Add, Remove, RenameColumn, Rename, Become}
 use Rattle.table_descriptors.specs.Descriptors.{Schema, IsProperSchema, key_kinds, key_kind, kind_of, turned, has_id, is_column, is_key_name, bad_change, changed_schema, columns_after, renamed}
-use Rattle.fact_model.specs.Facts.{Has}
+use Rattle.list_laws.specs.Members.{Has}
+use Rattle.list_laws.proofs.Bools.{or-true}
+use Rattle.list_laws.proofs.Filters.{any-none}
 
 cases : (b : Bool) → (b ≡ true) ⊎ (b ≡ false)
 cases true = inl refl
@@ -33,10 +35,6 @@ find-map : (p : Column → Bool) (r : Column → Column) (xs : List Column) → 
 find-map p r [] same kinds = refl
 find-map p r (x ∷ xs) same kinds = elim (cases (p x)) [ inl t ↦ rw (same x, t) (ap Some (kinds x)) | inr f ↦ rw (same x, f) (find-map p r xs same kinds) ]
 
-any-none : {X : Type 0} (p : X → Bool) (xs : List X) (x : X) → list_any p xs ≡ false → Has x xs → p x ≡ false
-any-none p [] x none has = absurd has
-any-none p (y ∷ ys) x none has = elim (cases (p y)) [ inl t ↦ (let no : true ≡ false = rw t at none in absurd cc) | inr f ↦ elim has [ inl e ↦ rw e f | inr more ↦ any-none p ys x (rw f at none) more ] ]
-
 all-has : {X : Type 0} (p : X → Bool) (xs : List X) (x : X) → list_all p xs ≡ true → Has x xs → p x ≡ true
 all-has p [] x all has = absurd has
 all-has p (y ∷ ys) x all has = elim (cases (p y)) [ inl t ↦ elim has [ inl e ↦ rw e t | inr more ↦ all-has p ys x (rw t at all) more ] | inr f ↦ (let no : false ≡ true = rw f at all in absurd cc) ]
@@ -44,11 +42,7 @@ all-has p (y ∷ ys) x all has = elim (cases (p y)) [ inl t ↦ elim has [ inl e
 has-id : (ids : List ℕ) (id : ℕ) → Has id ids → has_id id ids ≡ true
 has-id [] id has = absurd has
 has-id (x ∷ xs) id (inl e) = let t : (x == id) ≡ true = grind (arith, nat_tests, e) in rw t refl
-has-id (x ∷ xs) id (inr more) = rw (has-id xs id more) (any (x == id))
-  where
-    any : (b : Bool) → (b || true) ≡ true
-    any true = refl
-    any false = refl
+has-id (x ∷ xs) id (inr more) = rw (has-id xs id more) (or-true (x == id))
 
 map-same : (f g : ℕ → Kind) (ids : List ℕ) → ((id : ℕ) → Has id ids → f id ≡ g id) → map f ids ≡ map g ids
 map-same f g [] same = refl

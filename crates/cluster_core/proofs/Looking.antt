@@ -17,6 +17,10 @@ pub record Sees (tables : List Table) (name : List ℕ × List ℕ) (t : Time) (
   pub force : in_force table.descriptors t ≡ Some d
   pub named_is : named tables name t ≡ Some (record { place = place; table = table; schema = d })
 
+-- what the name finds
+abbrev pub found_by : (name : List ℕ × List ℕ) (tables : List Table) (t : Time) (id : ℕ) (d : Schema) → Sees tables name t id d → Found
+found_by name tables t id d w = record { place = w.place; table = w.table; schema = d }
+
 module _ (s : Schemas) (tables : List Table) (name : List ℕ × List ℕ) (t : Time) (same : schemas_of tables ≡ s.tables) where
   abbrev in_catalog : Option ℕ → Option (ℕ × Schema)
   in_catalog place = option_and_then (λ id. option_map (λ d. (id, d)) (in_force (history_of s id) t)) (option_map id_at place)

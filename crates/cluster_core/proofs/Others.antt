@@ -1,6 +1,7 @@
 -- What a call on one layer's objects leaves of another layer, and layers that are final.
-use Rattle.std.proofs.Common.{◌≡◌, ◌≢◌, inl, inr, ⊎_elim, ℕ, true, List, ◌∙◌}
+use Rattle.std.proofs.Common.{◌≡◌, ◌≢◌, inl, inr, ⊎_elim, ℕ, true, List, ◌∙◌, subst, sym}
 use Rattle.mvcc_keys.specs.Times.{Time, time_le}
+use Rattle.mvcc_keys.proofs.TimeOrder.{zero-le}
 use Rattle.history_model.specs.Histories.{Table}
 use Rattle.history_model.specs.Layers as recorded
 use Rattle.outside_world.specs.Disk.{View}
@@ -54,8 +55,8 @@ same-of-other v w a b P R puts removals changes tells fv fw nv nw other part has
 -- ---- finality
 
 pub begun : (c : ClusterState) (tables : List Table) → Keeps c tables → AreBegun tables
-begun c tables k i table got = (k.orderly i table got).begun
+begun c tables k i table got = let o = k.orderly i table got in record { some = o.begun; ascend = o.ascend }
 
 -- the objects of a full layer are the same over later tables
 pub final : (c : ClusterState) (tables new : List Table) (t : Time) (r : recorded.Layer) → Keeps c tables → KeepsPast t tables new → IsFull r → time_le r.end t ≡ true → objects_of new r ≡ objects_of tables r
-final c tables new t r k past full le = layers-final t tables new r (begun c tables k) past le full.history
+final c tables new t r k past full le = (layers-final t tables new r (begun c tables k) past (subst (λ (u : Time). time_le u r.end ≡ true) (sym full.floor) (zero-le r.end)) le).objects

@@ -15,9 +15,10 @@ use Rattle.table_descriptors.specs.Descriptors.{Schema, new_schema, changed_sche
 use Rattle.table_descriptors.specs.Restoring.{restored_schema}
 use Rattle.table_descriptors.specs.declared.scopes.Scope.{Scope}
 use Rattle.table_descriptors.specs.declared.scopes.Scope.TheVariants.{Database, Tables}
-use Rattle.fact_model.specs.Facts.{Del, DelRange, Has, date}
-use Rattle.fact_model.proofs.Members.{filter-has, has-append_cases, map-has}
-use Rattle.fact_model.proofs.TimeLaws.{le-refl, le-trans, le-from_lt, lt-trans, lt-weaker}
+use Rattle.fact_model.specs.Facts.{Del, DelRange, date}
+use Rattle.list_laws.specs.Members.{Has}
+use Rattle.list_laws.proofs.Members.{filter-has, has-append_cases, map-has}
+use Rattle.mvcc_keys.proofs.TimeOrder.{le-refl, le-trans, lt-le, lt-trans, le-lt-lt}
 use Rattle.history_model.specs.Rows.{Key, RowFact, put_of}
 use Rattle.history_model.specs.Histories.{History, Table, Found, found_at, in_force, named, place_named, schemas_of}
 use Rattle.history_model.specs.Layers.{Layer}
@@ -25,14 +26,14 @@ use Rattle.schema_catalog.specs.Catalogs.{missing_fault, offline_fault, first_sc
 use Rattle.table_rows.specs.declared.faults.RowsFault.{RowsFault}
 use Rattle.table_rows.specs.Checks.{range_fault}
 use Rattle.reply_texts.specs.declared.refusals.Refusal.{Refusal}
-use Rattle.reply_texts.specs.declared.refusals.Refusal.TheVariants.{TickBack, NoSuchBackup, NoSuchLayer, NothingToRestore}
+use Rattle.reply_texts.specs.declared.refusals.Refusal.TheVariants.{TickBack, NoSuchBackup, NoSuchLayer, NoSuchTable, NothingToRestore}
 use Rattle.reply_texts.specs.declared.answers.Answer.{Answer}
 use Rattle.reply_texts.specs.declared.answers.Answer.TheVariants.{ClockSet, RangeDeleted}
 use Rattle.command_lang.specs.declared.command.Command.TheVariants.{Cluster, Tick, CreateDatabase, CreateTable, AddColumn, DropColumn, RenameColumn, RenameTable, DropTable, Upsert, Delete, DeleteRange, Select, Gc, BackupDatabase, BackupTables, RestoreDatabase, Forget, ShowBackups}
 use Rattle.machine_model.specs.Machine.{Backup, Restore, Machine, Stepped, answered, catalog_of, first_refusal, refusal_if, unless_refused, with_time, drawing, with_found, with_table}
 use Rattle.machine_model.specs.Tables.{tick, create_database, create_table, new_table, with_new_table, alter, drop_table, described, with_descriptor}
 use Rattle.machine_model.specs.TableRows.{adding, upsert, delete, delete_range, select, select_at, collect, raised, with_threshold, extended, with_facts}
-use Rattle.machine_model.specs.Backups.{ending, full_layer, full_backup, absent_refusal, backup_database, ids_named, backup_tables, show_backups, with_found as finding, source_among, own_subdirectories, layers_in, with_source, is_between_times, forgetting, forget}
+use Rattle.machine_model.specs.Backups.{ending, full_layer, full_backup, absent_refusal, backup_database, ids_named, backup_tables, show_backups, source_among, own_subdirectories, layers_in, with_source, is_between_times, forgetting, forget}
 use Rattle.machine_model.specs.Restores.{links_of, time_of, layers_at, with_cover, last_of, chosen_tables, restored_table, restore_chosen, restore_chain, restore_database}
 use Rattle.machine_model.specs.Step.{step}
 use Rattle.machine_model.specs.Refusals.{catalog_refusal}
@@ -42,11 +43,14 @@ use Rattle.id_remap.specs.declared.targets.Target.TheVariants as target
 use Rattle.id_remap.specs.Remapping.{new_ids, remapped_schema}
 use Rattle.script_grammar.specs.declared.backups.Src.{Src}
 use Rattle.layer_objects.specs.Objects.{name_of}
+use Rattle.introduced_spans.proofs.Untold.{later-untold}
 use Rattle.layer_objects.specs.Past.{IsLonger, KeepsPast}
+use Rattle.layer_objects.proofs.Final.{past-then}
 use Rattle.layer_book.specs.Books.{same_name}
 use Rattle.machine_model.specs.Past.{IsLater, StepsAreLater}
 use Rattle.cluster_core.proofs.Kept.{next-later}
 use Rattle.cluster_core.proofs.Lists.{got-set, got-set_other, got-left, got-either}
+use Rattle.list_laws.proofs.Places.{append-then}
 
 -- ---- tables
 
@@ -56,7 +60,7 @@ longer-same t table threshold = record {
   id_is = refl;
   facts = [];
   facts_are = sym (append-nil table.facts);
-  facts_after = λ f no. absurd no;
+  untold = λ f no. absurd no;
   schemas = [];
   schemas_are = sym (append-nil table.descriptors);
   schemas_after = λ d no. absurd no;
@@ -93,38 +97,6 @@ past-more t tables others begin = record {
 
 -- ---- twice later
 
-more-then : {X : Type 0} (a b c more further : List X) → b ≡ a ++ more → c ≡ b ++ further → c ≡ a ++ (more ++ further)
-more-then a b c more further first second = second ∙ (ap (λ xs. xs ++ further) first ∙ append_assoc a more further)
-
-after-then : {X : Type 0} (on : X → Time) (s t : Time) (more further : List X) → time_le s t ≡ true → ((x : X) → Has x more → time_lt s (on x) ≡ true) → ((x : X) → Has x further → time_lt t (on x) ≡ true)
-    → (x : X) → Has x (more ++ further) → time_lt s (on x) ≡ true
-after-then on s t more further le first second x has = ⊎_elim (first x) (λ is. lt-weaker s t (on x) le (second x is)) (has-append_cases x more further has)
-
-longer-then : (s t : Time) (a b c : Table) → time_le s t ≡ true → IsLonger s a b → IsLonger t b c → IsLonger s a c
-longer-then s t a b c le p q = record {
-  id_is = q.id_is ∙ p.id_is;
-  facts = p.facts ++ q.facts;
-  facts_are = more-then a.facts b.facts c.facts p.facts q.facts p.facts_are q.facts_are;
-  facts_after = after-then date s t p.facts q.facts le p.facts_after q.facts_after;
-  schemas = p.schemas ++ q.schemas;
-  schemas_are = more-then a.descriptors b.descriptors c.descriptors p.schemas q.schemas p.schemas_are q.schemas_are;
-  schemas_after = after-then (λ (d : Schema). d.modified) s t p.schemas q.schemas le p.schemas_after q.schemas_after;
-}
-
-past-then : (s t : Time) (a b c : List Table) → time_le s t ≡ true → KeepsPast s a b → KeepsPast t b c → KeepsPast s a c
-past-then s t a b c le p q = record {
-  kept = λ i table got. let m = p.kept i table got in let n = q.kept i m.0 m.1 in (n.0, n.1, longer-then s t table m.0 n.0 le m.2 n.2);
-  added = λ i table none got. by i table none got (slice_get b i) refl;
-}
-  where
-    by : (i : ℕ) (table : Table) → slice_get a i ≡ None → slice_get c i ≡ Some table → (o : Option Table) → slice_get b i ≡ o → (d : Schema) → Has d table.descriptors → time_lt s d.modified ≡ true
-    by i table none got None fresh d has = lt-weaker s t d.modified le (q.added i table fresh got d has)
-    by i table none got (Some mid) there d has =
-        let n = q.kept i mid there in
-        let same : n.0 ≡ table = let e : Some n.0 ≡ Some table = sym n.1 ∙ got in cc in
-        let ds : table.descriptors ≡ mid.descriptors ++ n.2.schemas = ap (λ (x : Table). x.descriptors) (sym same) ∙ n.2.schemas_are in
-        after-then (λ (x : Schema). x.modified) s t mid.descriptors n.2.schemas le (p.added i mid none there) n.2.schemas_after d (subst (λ (xs : List Schema). Has d xs) ds has)
-
 pub later-then : (a b c : Machine) → IsLater a b → IsLater b c → IsLater a c
 later-then a b c p q = record {
   name = q.name ∙ p.name;
@@ -132,7 +104,7 @@ later-then a b c p q = record {
   clock = le-trans a.clock b.clock c.clock p.clock q.clock;
   tables = past-then a.clock b.clock a.history.tables b.history.tables c.history.tables p.clock p.tables q.tables;
   more = p.more ++ q.more;
-  jobs = more-then a.jobs b.jobs c.jobs p.more q.more p.jobs q.jobs;
+  jobs = append-then a.jobs b.jobs c.jobs p.more q.more p.jobs q.jobs;
   layers = λ r has. ⊎_elim (p.layers r) (λ (after : length b.jobs < r.job). inr (let n = ap length p.jobs ∙ length-append a.jobs p.more in omega (arith, n, after))) (q.layers r has);
 }
 
@@ -164,9 +136,9 @@ timed-later m (Some t) change later = later t refl
 drawing-later : (m : Machine) (change : Time → Stepped) → ((t : Time) → time_lt m.clock t ≡ true → IsLater m (change t).machine) → IsLater m (drawing m change).machine
 drawing-later m change later = timed-later m (next m.clock) change (λ t is. later t (next-later m.clock t is))
 
-found-later : (m : Machine) (name : List ℕ × List ℕ) (o : Option Found) (change : Found → Stepped) → ((f : Found) → o ≡ Some f → IsLater m (change f).machine) → IsLater m (with_found m name o change).machine
-found-later m name None change later = later-same m
-found-later m name (Some f) change later = later f refl
+found-later : (m : Machine) (refusal : Refusal) {X : Type 0} (o : Option X) (change : X → Stepped) → ((x : X) → o ≡ Some x → IsLater m (change x).machine) → IsLater m (with_found m refusal o change).machine
+found-later m refusal None change later = later-same m
+found-later m refusal (Some x) change later = later x refl
 
 in-table : (i : ℕ) (t : Time) (table : Table) (r : Option Schema) (f : Found) → option_map (λ (d : Schema). record { place = i; table = table; schema = d }) r ≡ Some f → (f.place ≡ i) × (f.table ≡ table)
 in-table i t table None f e = absurd cc
@@ -183,7 +155,7 @@ named-there tables t None f e = absurd cc
 named-there tables t (Some i) f e = in-tables tables i t (slice_get tables i) f refl e
 
 table-later : (m : Machine) (name : List ℕ × List ℕ) (t : Time) (change : Found → Stepped) → ((f : Found) → slice_get m.history.tables f.place ≡ Some f.table → IsLater m (change f).machine) → IsLater m (with_table m name t change).machine
-table-later m name t change later = found-later m name (named m.history.tables name t) change (λ f is. later f (named-there m.history.tables t (place_named (schemas_of m.history.tables) name t) f is))
+table-later m name t change later = found-later m (NoSuchTable name) (named m.history.tables name t) change (λ f is. later f (named-there m.history.tables t (place_named (schemas_of m.history.tables) name t) f is))
 
 -- ---- each command
 
@@ -192,7 +164,7 @@ unfolding tick
 tick-later m wall = by (time_lt m.clock (time wall 0)) refl
   where
     by : (b : Bool) → time_lt m.clock (time wall 0) ≡ b → IsLater m (unless_refused m (first_refusal (refusal_if (not b) (TickBack m.clock) ∷ [])) (answered (record m { clock = time wall 0 }) (ClockSet (time wall 0)))).machine
-    by true is = later-as m (time wall 0) m.history (le-from_lt m.clock (time wall 0) is) (past-same m.clock m.history.tables)
+    by true is = later-as m (time wall 0) m.history (lt-le m.clock (time wall 0) is) (past-same m.clock m.history.tables)
     by false is = later-same m
 
 database-later : (m : Machine) (name : List ℕ) → IsLater m (create_database m name).machine
@@ -218,19 +190,19 @@ unfolding create_table
 create-later m name columns key references = drawing-later m _ (λ t after.
     let d = first_schema (catalog_of m) t name columns key references in
     let dated : d.modified ≡ t = new-modified _ _ _ columns key _ t in
-    unless-later m _ _ (later-as m d.modified (with_new_table m d).history (subst (λ (u : Time). time_le m.clock u ≡ true) (sym dated) (le-from_lt m.clock t after))
+    unless-later m _ _ (later-as m d.modified (with_new_table m d).history (subst (λ (u : Time). time_le m.clock u ≡ true) (sym dated) (lt-le m.clock t after))
     (past-more m.clock m.history.tables (new_table d ∷ []) (λ table has. ⊎_elim
     (λ is. subst (λ (x : Table). (e : Schema) → Has e x.descriptors → time_lt m.clock e.modified ≡ true) (sym is) (one-dated m.clock t d dated after))
     (λ no. absurd no) has))))
 
 -- a descriptor that is dated after the clock
 described-later : (m : Machine) (f : Found) (d : Schema) (t : Time) → slice_get m.history.tables f.place ≡ Some f.table → d.modified ≡ t → time_lt m.clock t ≡ true → IsLater m (with_descriptor m f d)
-described-later m f d t got dated after = later-as m d.modified (with_descriptor m f d).history (subst (λ (u : Time). time_le m.clock u ≡ true) (sym dated) (le-from_lt m.clock t after))
+described-later m f d t got dated after = later-as m d.modified (with_descriptor m f d).history (subst (λ (u : Time). time_le m.clock u ≡ true) (sym dated) (lt-le m.clock t after))
     (past-set m.clock m.history.tables f.place f.table (described f.table d) got (record {
       id_is = refl;
       facts = [];
       facts_are = sym (append-nil f.table.facts);
-      facts_after = λ x no. absurd no;
+      untold = λ x no. absurd no;
       schemas = d ∷ [];
       schemas_are = refl;
       schemas_after = one-dated m.clock t d dated after;
@@ -249,13 +221,13 @@ drop-later m name = drawing-later m _ (λ t after. table-later m name t _ (λ f 
 -- facts that are dated by the drawn time
 adding-later : (m : Machine) (name : List ℕ × List ℕ) (fault : Schema → Option RowsFault) (facts : Schema → Time → List RowFact) (answer : Time → Answer)
     → ((d : Schema) (t : Time) (f : RowFact) → Has f (facts d t) → date f ≡ t) → IsLater m (adding m name fault facts answer).machine
-adding-later m name fault facts answer dated = drawing-later m _ (λ t after. table-later m name t _ (λ f got. unless-later m _ _ (later-as m t (with_facts m f (facts f.schema t) t).history (le-from_lt m.clock t after)
+adding-later m name fault facts answer dated = drawing-later m _ (λ t after. table-later m name t _ (λ f got. unless-later m _ _ (later-as m t (with_facts m f (facts f.schema t) t).history (lt-le m.clock t after)
     (past-set m.clock m.history.tables f.place f.table (extended f.table (facts f.schema t)) got
     (record {
       id_is = refl;
       facts = facts f.schema t;
       facts_are = refl;
-      facts_after = λ x has. subst (λ (u : Time). time_lt m.clock u ≡ true) (sym (dated f.schema t x has)) after;
+      untold = λ x has. later-untold f.table.descriptors m.clock (date x) (subst (λ (u : Time). time_lt m.clock u ≡ true) (sym (dated f.schema t x has)) after);
       schemas = [];
       schemas_are = sym (append-nil f.table.descriptors);
       schemas_after = λ d no. absurd no;
@@ -303,7 +275,7 @@ full-later m tests collection scope end clock le = let r = full_layer m collecti
     new-job q (inr none) = absurd none
 
 ending-later : (m : Machine) (at : Option Time) (change : Time → Time → Stepped) → ((end clock : Time) → time_le m.clock clock ≡ true → IsLater m (change end clock).machine) → IsLater m (ending m at change).machine
-ending-later m None change later = drawing-later m (λ t. change t t) (λ t after. later t t (le-from_lt m.clock t after))
+ending-later m None change later = drawing-later m (λ t. change t t) (λ t after. later t t (lt-le m.clock t after))
 ending-later m (Some t) change later = unless-later m _ _ (later t m.clock (le-refl m.clock))
 
 backup-later : (m : Machine) (database collection : List ℕ) (at : Option Time) → IsLater m (backup_database m database collection at).machine
@@ -315,9 +287,9 @@ unfolding backup_tables
 tables-later m names collection at = ending-later m at _ (λ end clock le. full-later m (catalog_refusal (missing_fault (catalog_of m) end names) ∷ catalog_refusal (offline_fault (catalog_of m) end names) ∷ [])
     collection (Tables (ids_named (schemas_of m.history.tables) names end)) end clock le)
 
-pub finding-later : (m : Machine) (r : Refusal) {X : Type 0} (o : Option X) (change : X → Stepped) → ((x : X) → IsLater m (change x).machine) → IsLater m (finding m r o change).machine
-finding-later m r None change later = later-same m
-finding-later m r (Some x) change later = later x
+-- the same, whatever was found
+pub finding-later : (m : Machine) (refusal : Refusal) {X : Type 0} (o : Option X) (change : X → Stepped) → ((x : X) → IsLater m (change x).machine) → IsLater m (with_found m refusal o change).machine
+finding-later m refusal o change later = found-later m refusal o change (λ x is. later x)
 
 source-later : (m : Machine) (source : Src) (collection : List ℕ) (change : List ℕ × Time → Stepped) → ((s : List ℕ × Time) → IsLater m (change s).machine) → IsLater m (with_source m source collection change).machine
 source-later m source collection change later = finding-later m NoSuchBackup (source_among source (own_subdirectories m collection)) change later
@@ -350,7 +322,7 @@ chosen-later m database t at published rs chosen first then =
     unless-later m _ _ (record {
       name = refl;
       limits = refl;
-      clock = le-from_lt m.clock published second;
+      clock = lt-le m.clock published second;
       tables = past-more m.clock m.history.tables (map make chosen) (λ table has. let p = map-has make table chosen has in
           subst (λ (x : Table). (d : Schema) → Has d x.descriptors → time_lt m.clock d.modified ≡ true) (sym p.2) (restored-after m.clock m.history.tables (new_ids (catalog_of m) chosen) (target.Database database) t at published p.0 first second));
       more = Restore ∷ [];

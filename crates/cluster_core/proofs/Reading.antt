@@ -6,7 +6,7 @@ use Rattle.table_descriptors.specs.Descriptors.{Schema, key_kinds}
 use Rattle.row_codec.specs.RowOrder.{row_cmp}
 use Rattle.fact_model.specs.Scans.{scan}
 use Rattle.history_model.specs.Rows.{RowFact, shown_rows}
-use Rattle.history_model.specs.Histories.{Table, Found}
+use Rattle.history_model.specs.Histories.{Table}
 use Rattle.version_store.specs.MapHolding.{KeepsAll}
 use Rattle.version_store.specs.declared.mvcc_map.MvccMap.{MvccMap}
 use Rattle.table_rows.specs.declared.faults.SelectFault.{SelectFault}
@@ -26,13 +26,10 @@ use Rattle.layer_objects.specs.Objects.{rows_of, table_kinds, table_facts, table
 use Rattle.cluster_core.specs.Standing.{Keeps, machine_of, IsStepped, Refuses, Does}
 use Rattle.cluster_core.proofs.Lists.{got-set}
 use Rattle.cluster_core.proofs.Tables.{by_id-at}
-use Rattle.fact_model.proofs.TimeLaws.{le-from_lt}
+use Rattle.mvcc_keys.proofs.TimeOrder.{lt-le}
 use Rattle.cluster_core.proofs.Kept.{in_force-has, restored, keeps-as, keeps-raised}
-use Rattle.cluster_core.proofs.Looking.{Sees, sees}
+use Rattle.cluster_core.proofs.Looking.{Sees, found_by, sees}
 use Rattle.cluster_core.proofs.Flow.{missing, finds, passes, stops, does}
-
-abbrev found : (name : List ℕ × List ℕ) (tables : List Table) (t : Time) (id : ℕ) (d : Schema) → Sees tables name t id d → Found
-found name tables t id d w = record { place = w.place; table = w.table; schema = d }
 
 -- the table of a cluster's rows is that of its machine
 module _ (c : ClusterState) (tables : List Table) (name : List ℕ × List ℕ) (t : Time) (id : ℕ) (d : Schema) (k : Keeps c tables) (w : Sees tables name t id d) where
@@ -66,7 +63,7 @@ module _ (name : List ℕ × List ℕ) (at : Option Time) (t : Time) where
   select-missing c is p e tables k = past c tables is p ∙ missing c tables name t _ k e
 
   reach : (c : ClusterState) (tables : List Table) (id : ℕ) (d : Schema) → t ≡ unwrap_or at c.clock → refusal_if (time_lt c.clock t) (Future c.clock) ≡ None → Keeps c tables → (w : Sees tables name t id d)
-      → select (machine_of c tables) name at ≡ judged (machine_of c tables) (offline_refusal name d ∷ collected_refusal w.table t ∷ []) (answered (machine_of c tables) (RowsShown (rows_at (found name tables t id d w) t)))
+      → select (machine_of c tables) name at ≡ judged (machine_of c tables) (offline_refusal name d ∷ collected_refusal w.table t ∷ []) (answered (machine_of c tables) (RowsShown (rows_at (found_by name tables t id d w) t)))
   reach c tables id d is p k w = past c tables is p ∙ finds c tables name t id d _ k w
 
   pub select-offline : (c : ClusterState) (id : ℕ) (d : Schema) → t ≡ unwrap_or at c.clock → refusal_if (time_lt c.clock t) (Future c.clock) ≡ None → found_in c.schemas name t ≡ Some (id, d)
@@ -113,7 +110,7 @@ module _ (name : List ℕ × List ℕ) (g : Time) where
 
   collect-reach : (c : ClusterState) (tables : List Table) (id : ℕ) (d : Schema) → Keeps c tables → (w : Sees tables name c.clock id d)
       → collect (machine_of c tables) name g ≡ judged (machine_of c tables) (offline_refusal name d ∷ future_refusal (machine_of c tables) g ∷ [])
-      (answered (with_raised (machine_of c tables) (found name tables c.clock id d w) (raised w.table.threshold g)) (ThresholdRaised (raised w.table.threshold g)))
+      (answered (with_raised (machine_of c tables) (found_by name tables c.clock id d w) (raised w.table.threshold g)) (ThresholdRaised (raised w.table.threshold g)))
   unfolding collect
   collect-reach c tables id d k w = finds c tables name c.clock id d _ k w
 
@@ -141,7 +138,7 @@ module _ (name : List ℕ × List ℕ) (g : Time) where
       let same : threshold ≡ raised w.table.threshold g = now _ keeps.rows ∙ subst (λ (i : ℕ). by_id zero_time table_threshold (slice_set tables w.place u) i ≡ raised w.table.threshold g) (sym w.id_is) (by_id-at zero_time table_threshold (slice_set tables w.place u) w.place u (got-set tables w.place w.table u w.got)) in
       does (restored c store) _ (ThresholdRaised threshold) _ keeps
       (collect-reach c tables id d k w ∙ (passes m (offline_refusal name d) _ _ public ∙ (passes m (future_refusal m g) [] _ past
-      ∙ ap (λ (x : Time). answered (with_raised m (found name tables c.clock id d w) (raised w.table.threshold g)) (ThresholdRaised x)) (sym same))))
+      ∙ ap (λ (x : Time). answered (with_raised m (found_by name tables c.clock id d w) (raised w.table.threshold g)) (ThresholdRaised x)) (sym same))))
     where
       not-future : (b : Bool) → time_lt c.clock g ≡ b → refusal_if b (Future c.clock) ≡ None → b ≡ false
       not-future true e clash = cc clash
@@ -157,6 +154,6 @@ unfolding tick
 ticked c wall t is after tables k =
     let later : time_lt c.clock (time wall 0) ≡ true = subst (λ (x : Time). time_lt c.clock x ≡ true) is after in
     let m = machine_of c tables in
-    does (reclocked c t) tables (ClockSet t) _ (keeps-as c (reclocked c t) tables k refl refl refl (le-from_lt c.clock t after))
+    does (reclocked c t) tables (ClockSet t) _ (keeps-as c (reclocked c t) tables k refl refl refl (lt-le c.clock t after))
     (passes m (refusal_if (not (time_lt c.clock (time wall 0))) (TickBack c.clock)) [] _ (rw later refl)
     ∙ ap (λ (x : Time). answered (record m { clock = x }) (ClockSet x)) (sym is))

@@ -12,8 +12,8 @@ use Rattle.reply_texts.specs.declared.answers.RestoredTable.{RestoredTable}
 use Rattle.reply_texts.specs.declared.replies.Response.{Response}
 use Rattle.mvcc_keys.specs.Times.{IsTime, Time, next}
 use Rattle.table_descriptors.specs.Descriptors.{IsProperSchema, Schema}
-use Rattle.fact_model.specs.Facts.{Has}
-use Rattle.fact_model.proofs.Members.{has-append_cases, has-map}
+use Rattle.list_laws.specs.Members.{Has}
+use Rattle.list_laws.proofs.Members.{has-append_cases, has-map}
 use Rattle.history_model.specs.Histories.{Table}
 use Rattle.history_model.specs.Layers.{Layer}
 use Rattle.schema_catalog.specs.Catalogs.{Schemas, history_of, next_id}
@@ -30,8 +30,7 @@ use Rattle.id_remap.specs.declared.targets.Target.{Target}
 use Rattle.id_remap.specs.declared.targets.Target.TheVariants as target
 use Rattle.reply_texts.specs.declared.refusals.Refusal.{Refusal}
 use Rattle.reply_texts.specs.declared.refusals.Refusal.TheVariants.{NothingToRestore, TooManyEvents}
-use Rattle.machine_model.specs.Machine.{Backup, Machine, Restore, Stepped, answered, catalog_of, first_refusal, refusal_if, refused, unless_refused}
-use Rattle.machine_model.specs.Backups.{with_found}
+use Rattle.machine_model.specs.Machine.{Backup, Machine, Restore, Stepped, answered, catalog_of, first_refusal, refusal_if, refused, unless_refused, with_found}
 use Rattle.machine_model.specs.Past.{IsLater}
 use Rattle.machine_model.specs.Disks.{IsGone, IsReady, IsThere, StandsUntil}
 use Rattle.machine_model.specs.Restores.{chosen_tables, count_to_restore, last_of, nothing_refusal, refusal_of_remap, restore_chain, restore_chosen, restore_done, restored_as, restored_table, rows_to_restore, span_of, with_restored}
@@ -45,7 +44,7 @@ use Rattle.cluster_core.specs.Standing.{HasBackups, Keeps, MayStep, Runs, Stands
 use Rattle.cluster_core.specs.Chains.{IsOneLayer, IsStanding}
 use Rattle.cluster_core.specs.Chains.{entries_in, stored_rows}
 use Rattle.cluster_core.specs.declared.restores.Plan.{Plan}
-use Rattle.cluster_core.specs.Restoring.{AreRowsOf, count_rows, entries_of, made_table, made_tables}
+use Rattle.cluster_core.specs.Restoring.{AreRowsOfEach, count_rows, entries_of, made_table, made_tables}
 use Rattle.cluster_core.proofs.BackingUp.{idle-same}
 use Rattle.cluster_core.proofs.Redone.{KeptBy, by-ids, kept-stands}
 use Rattle.cluster_core.proofs.Restored.{all-restored}
@@ -225,7 +224,7 @@ module _ (c : ClusterState) (database new : List ℕ) (x : Chain) (layer : Layer
         abbrev fresh-items : List (List RowItem)
         fresh-items = map (rows_to_restore (unraised s.tables) r.end) shown
 
-        rows-are : AreRowsOf made shown (entries_of vs) fresh-items
+        rows-are : AreRowsOfEach made shown (entries_of vs) fresh-items
         rows-are = items-stored made time (unraised s.tables) r stands-there.storable database r.end shown vs (λ d has. subst (Has d) shown-is has) tested read
 
         made-are : made_tables made published p.tables.items fresh-items ≡ map (restored_table s.tables (new_ids (catalog_of (machine_of c s.tables)) shown) (target.Database new) x.time made published) shown

@@ -9,8 +9,8 @@ use Rattle.mvcc_keys.specs.declared.entries.Entry.{Entry}
 use Rattle.table_descriptors.specs.declared.changes.Change.TheVariants.{Become}
 use Rattle.table_descriptors.specs.declared.columns.State.TheVariants.{Public}
 use Rattle.table_descriptors.specs.Descriptors.{Schema, changed_schema}
-use Rattle.fact_model.specs.Facts.{Has}
-use Rattle.fact_model.proofs.TimeLaws.{le-from_lt, lt-trans}
+use Rattle.list_laws.specs.Members.{Has}
+use Rattle.mvcc_keys.proofs.TimeOrder.{lt-le, lt-trans}
 use Rattle.history_model.specs.Rows.{RowItem}
 use Rattle.history_model.specs.Histories.{Table}
 use Rattle.schema_catalog.specs.Catalogs.{next_id}
@@ -27,7 +27,7 @@ use Rattle.cluster_core.specs.Chains.{AreTypedRows}
 use Rattle.cluster_core.proofs.Rereading.{items-any}
 use Rattle.cluster_core.specs.ClusterView.{ClusterState, record_of}
 use Rattle.cluster_core.specs.Standing.{HasBackups, Keeps, StandsFor, machine_of}
-use Rattle.cluster_core.specs.Restoring.{AreRowsOf, HasRoomFor, IsFirst, count_rows, entries_of, made_tables}
+use Rattle.cluster_core.specs.Restoring.{AreRowsOfEach, HasRoomFor, IsFirst, count_rows, entries_of, made_tables}
 use Rattle.cluster_core.specs.Restores.{AreTested, IsPlanned, with_restore}
 use Rattle.cluster_core.proofs.Here.{kept-backups}
 use Rattle.cluster_core.proofs.Kept.{next-later}
@@ -101,14 +101,14 @@ module _ (c : ClusterState) (new : List ℕ) (made published : Time) (first-is :
     keeps = kept;
     machine_is = refl;
     backups = restore-backups c n tables all k b (past-more c.clock tables (made_tables made published ss items) (made-after c.clock made published first second ss items firsts))
-        (subst (λ (t : Time). time_le c.clock t ≡ true) (sym (ap (λ (y : ClusterState). y.clock) rest)) (le-from_lt c.clock published second))
+        (subst (λ (t : Time). time_le c.clock t ≡ true) (sym (ap (λ (y : ClusterState). y.clock) rest)) (lt-le c.clock published second))
         (ap (λ (y : ClusterState). y.name) rest) (ap (λ (y : ClusterState). y.jobs) rest) (ap (λ (y : ClusterState). y.book) rest);
   }
 
 -- ---- what is kept, on every disk
 
 abbrev pub KeptBy : ClusterState → ClusterState → List ℕ → Time → Time → Plan → List (Vec Entry) → Result Answer Halt → Type 0
-KeptBy c n new made published p vs res = (old : List Table) (chosen : List Schema) (items : List (List RowItem)) → Keeps c old → p.tables.items ≡ map (remapped_schema p.ids (target.Database new) made) chosen → ids_of p.tables.items ≡ range_with_len (next_id c.schemas) (length chosen) → AreRowsOf made chosen (entries_of vs) items
+KeptBy c n new made published p vs res = (old : List Table) (chosen : List Schema) (items : List (List RowItem)) → Keeps c old → p.tables.items ≡ map (remapped_schema p.ids (target.Database new) made) chosen → ids_of p.tables.items ≡ range_with_len (next_id c.schemas) (length chosen) → AreRowsOfEach made chosen (entries_of vs) items
     → OnOk res (Keeps n (old ++ made_tables made published p.tables.items items))
 
 module _ (c : ClusterState) (new : List ℕ) (made published : Time) (first-is : next c.clock ≡ Some made) (second-is : next made ≡ Some published) (chosen : List Schema) (p : Plan) (planned : IsPlanned c.schemas new made chosen p) (vs : List (Vec Entry)) (n : ClusterState) where

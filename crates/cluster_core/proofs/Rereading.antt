@@ -12,8 +12,8 @@ use Rattle.mvcc_keys.specs.Times.{IsTime, Time, time_le, zero_time}
 use Rattle.mvcc_keys.specs.declared.entries.Entry.{Entry}
 use Rattle.row_codec.specs.declared.rows.Kind.{Kind}
 use Rattle.table_descriptors.specs.Descriptors.{IsProperSchema, Schema, key_kinds}
-use Rattle.fact_model.specs.Facts.{Has}
-use Rattle.fact_model.proofs.Members.{AllByRecursion-has, has-AllByRecursion, map-has}
+use Rattle.list_laws.specs.Members.{Has}
+use Rattle.list_laws.proofs.Members.{AllByRecursion-has, all-weaker, has-AllByRecursion, map-has, reverse-has}
 use Rattle.fact_model.specs.Scans.{scan}
 use Rattle.history_model.specs.Rows.{RowFact, RowItem}
 use Rattle.history_model.specs.Histories.{Table, accepted, in_force, key_order, schemas_of}
@@ -21,20 +21,19 @@ use Rattle.history_model.specs.Layers.{Layer}
 use Rattle.schema_catalog.specs.Catalogs.{history_of, next_id}
 use Rattle.introduced_spans.specs.declared.plans.TablePlan.{TablePlan}
 use Rattle.introduced_spans.specs.PlanLaws.{ascend_after}
-use Rattle.introduced_spans.specs.Spans.{plan_fault}
+use Rattle.introduced_spans.specs.Spans.{plan_fault, layer_descriptors}
 use Rattle.introduced_spans.proofs.Fulls.{full-is-whole}
-use Rattle.introduced_spans.proofs.Lists.{all-each}
+use Rattle.mvcc_keys.proofs.TimeOrder.{zero-le}
 use Rattle.outside_world.specs.Objects.{Objects}
 use Rattle.layer_manifest.specs.declared.manifest.Manifest.{Manifest}
 use Rattle.layer_manifest.specs.declared.manifest.TablePart.{TablePart}
 use Rattle.layer_model.specs.declared.names.LayerName.{LayerName}
 use Rattle.layer_model.specs.declared.names.Part.TheVariants.{Chunk}
 use Rattle.layer_model.specs.Layers as stored
-use Rattle.backup_job.specs.Contents.{layer_descriptors, part_of}
+use Rattle.backup_job.specs.Contents.{part_of}
 use Rattle.layer_objects.specs.Objects.{by_id, described, objects_of, plan_of, table_facts, table_threshold}
 use Rattle.layer_objects.specs.Past.{KeepsPast}
 use Rattle.layer_objects.specs.Storable.{AreStorable, IsFull, IsStorable, MayBeWritten, manifest_of}
-use Rattle.layer_objects.proofs.Final.{reverse-has}
 use Rattle.layer_objects.proofs.Writable.{layers-written, manifests-tell}
 use Rattle.layer_rows.specs.Putting.{IsItem}
 use Rattle.machine_model.specs.Machine.{Backup}
@@ -44,13 +43,12 @@ use Rattle.cluster_core.specs.ClusterView.{ClusterState, record_of}
 use Rattle.cluster_core.specs.Standing.{HasBackups, Keeps}
 use Rattle.cluster_core.specs.Chains as chains
 use Rattle.cluster_core.specs.Chains.{AreTypedRows, IsRowItem, IsStanding, entries_in, stored_rows}
-use Rattle.cluster_core.specs.Restoring.{AreRowsOf, AreStoredRows, entries_of}
+use Rattle.cluster_core.specs.Restoring.{AreRowsOfEach, AreStoredRows, entries_of}
 use Rattle.cluster_core.specs.Restores.{AreTested, shown_tables}
 use Rattle.cluster_core.proofs.Backing.{storable}
 use Rattle.cluster_core.proofs.Choosing.{chosen-shown}
 use Rattle.cluster_core.proofs.Covers.{booked-full, has-place}
 use Rattle.cluster_core.proofs.Items.{chosen-rows, rows-read}
-use Rattle.cluster_core.proofs.Kept.{zero-least}
 use Rattle.cluster_core.proofs.Lists.{find-has}
 use Rattle.cluster_core.proofs.Others.{final}
 use Rattle.cluster_core.proofs.Past.{longer-same}
@@ -62,12 +60,12 @@ module _ (made : Time) (time : IsTime made) where
   stored-of id kinds es items small rows = record {
     small = small;
     stored = rows.are;
-    each = record { each = all-each (IsRowItem kinds) (IsItem kinds) (λ i x. x.0) items rows.each; differ = rows.differ };
+    each = record { each = all-weaker (IsRowItem kinds) (IsItem kinds) (λ i x. x.0) items rows.each; differ = rows.differ };
     sized = λ i has. (let s = has-AllByRecursion (IsRowItem kinds) i items rows.each has in (s.1.0, s.1.1, time));
   }
 
   -- whatever was read, it comes from rows
-  pub items-any : (ds : List Schema) (vs : List (Vec Entry)) → AreTypedRows ds vs → AreTested ds vs → (is : List (List RowItem)) × AreRowsOf made ds (entries_of vs) is
+  pub items-any : (ds : List Schema) (vs : List (Vec Entry)) → AreTypedRows ds vs → AreTested ds vs → (is : List (List RowItem)) × AreRowsOfEach made ds (entries_of vs) is
   items-any [] [] typed tested = ([], tt)
   items-any [] (v ∷ vs) typed tested = absurd typed
   items-any (d ∷ ds) [] typed tested = absurd typed
@@ -78,7 +76,7 @@ module _ (made : Time) (time : IsTime made) where
 
   -- what is stored of chosen tables comes from their rows
   pub items-stored : (tables : List Table) (r : Layer) (s : AreStorable tables) (database : List ℕ) (t : Time) (ds : List Schema) (vs : List (Vec Entry)) → ((d : Schema) → Has d ds → Has d (chosen_tables tables database t r)) → AreTested ds vs
-      → map entries_in vs ≡ map (stored_rows tables t) ds → AreRowsOf made ds (entries_of vs) (map (rows_to_restore tables t) ds)
+      → map entries_in vs ≡ map (stored_rows tables t) ds → AreRowsOfEach made ds (entries_of vs) (map (rows_to_restore tables t) ds)
   items-stored tables r s database t [] [] all tested are = tt
   items-stored tables r s database t [] (v ∷ vs) all tested are = absurd tested
   items-stored tables r s database t (d ∷ ds) [] all tested are = absurd tested
@@ -207,7 +205,7 @@ module _ (c : ClusterState) (tables : List Table) (k : Keeps c tables) (b : HasB
 
       allowed : plan_fault (schemas_of (unraised tables)) r.scope r.start r.end r.history (by_id zero_time table_threshold (unraised tables)) ≡ None
       allowed = subst₂ (λ (s : Time) (h : Bool). plan_fault (schemas_of (unraised tables)) r.scope s r.end h (by_id zero_time table_threshold (unraised tables)) ≡ None) (sym full.start) (sym full.history)
-          ((full-is-whole (schemas_of (unraised tables)) r.scope r.end (by_id zero_time table_threshold (unraised tables)) dated).allowed (λ id. rw (never-raised tables id) (zero-least r.end)))
+          ((full-is-whole (schemas_of (unraised tables)) r.scope r.end (by_id zero_time table_threshold (unraised tables)) dated).allowed (λ id. rw (never-raised tables id) (zero-le r.end)))
 
   pub over : time_le r.end c.clock ≡ true
   over = let place = has-place (Backup r) c.jobs (b.layers p own).among in (b.backups place.0 r place.1).over

@@ -1,5 +1,5 @@
 -- A restore's tables, added one after another.
-use Rattle.std.proofs.Common.{◌≡◌, inl, inr, ℕ, ◌+◌, ◌-◌, ◌<◌, ◌≤◌, ◌^◌, nat_eq, nat_lt, Bool, true, false, ◌&&◌, if◌then◌else◌, refl, sym, ap, ◌∙◌, subst, arith, List, [], ◌∷◌, ◌++◌, map, length, Option, Some, None, slice_get, slice_set, unwrap_or}
+use Rattle.std.proofs.Common.{◌≡◌, inl, inr, ℕ, ◌+◌, ◌-◌, ◌<◌, ◌≤◌, ◌^◌, nat_eq, nat_lt, Bool, true, false, ◌&&◌, if◌then◌else◌, refl, sym, ap, ◌∙◌, subst, arith, List, [], ◌∷◌, ◌++◌, map, length, Option, Some, None, slice_set, unwrap_or}
 use Rattle.std.specs.List.{AllByRecursion, range_with_len}
 use Rattle.std.specs.Map.{lookup}
 use Rattle.std.proofs.lemmas.Bool.Decides.{nat_tests}
@@ -12,8 +12,8 @@ use Rattle.table_descriptors.specs.declared.changes.Change.TheVariants.{Become}
 use Rattle.table_descriptors.specs.declared.columns.State.TheVariants.{Public}
 use Rattle.table_descriptors.specs.Descriptors.{Schema, changed_schema, key_kinds}
 use Rattle.table_descriptors.specs.Restoring.{restored_schema}
-use Rattle.fact_model.specs.Facts.{Has}
-use Rattle.fact_model.proofs.TimeLaws.{le-refl, le-from_lt, le-trans, lt-weaker}
+use Rattle.list_laws.specs.Members.{Has}
+use Rattle.mvcc_keys.proofs.TimeOrder.{le-refl, lt-le, le-trans, le-lt-lt, zero-le}
 use Rattle.history_model.specs.Rows.{RowFact, RowItem}
 use Rattle.history_model.specs.Histories.{Table, in_force}
 use Rattle.introduced_spans.specs.PlanLaws.{ascend_after}
@@ -32,18 +32,15 @@ use Rattle.machine_model.specs.Restores.{put_anew, restored_table, rows_to_resto
 use Rattle.machine_model.specs.Tables.{new_table}
 use Rattle.cluster_core.specs.ClusterView.{AreWithin, ClusterState}
 use Rattle.cluster_core.specs.Standing.{IsOwn, IsOrderly, Keeps}
-use Rattle.cluster_core.specs.Restoring.{AreRowsFor, AreRowsFrom, AreRowsOf, HasRoomFor, IsAdding, IsFirst, count_rows, made_table, made_tables, with_added}
+use Rattle.cluster_core.specs.Restoring.{AreRowsFor, AreRowsFrom, AreRowsOfEach, HasRoomFor, IsAdding, IsFirst, count_rows, made_table, made_tables, with_added}
 use Rattle.cluster_core.proofs.Tables.{by_id-at, rows-more, rows-new}
-use Rattle.cluster_core.proofs.Kept.{keeps-as, keeps-push, next-later, zero-least}
+use Rattle.cluster_core.proofs.Kept.{keeps-as, keeps-push, next-later}
 use Rattle.cluster_core.proofs.Adding.{map-dated}
 use Rattle.cluster_core.proofs.SchemaCommands.{next_version}
 use Rattle.cluster_core.proofs.Versions.{within-described}
+use Rattle.list_laws.proofs.Places.{got-last}
 
 -- ---- the last of a list
-
-got-last : {X : Type 0} (xs : List X) (y : X) → slice_get (xs ++ y ∷ []) (length xs) ≡ Some y
-got-last [] y = refl
-got-last (x ∷ xs) y = got-last xs y
 
 set-last : {X : Type 0} (xs : List X) (y z : X) → slice_set (xs ++ y ∷ []) (length xs) z ≡ xs ++ z ∷ []
 set-last [] y z = refl
@@ -62,7 +59,7 @@ force-last s t d at id is place le = rw (is, place, history-last s d, le) refl
 
 module _ (s t : Schemas) (d : Schema) (id : ℕ) (made published : Time) (later : time_lt made published ≡ true) (first : IsFirst made d) (is : t ≡ with_table s d) (place : id ≡ next_id s) where
   force : in_force (history_of t id) published ≡ Some d
-  force = force-last s t d published id is place (rw first.1 (le-from_lt made published later))
+  force = force-last s t d published id is place (rw first.1 (lt-le made published later))
 
   pub may-publish : IsChangeable t published id
   may-publish = record { schema = d; found = force; version = rw first.0 (omega arith) }
@@ -101,7 +98,7 @@ module _ (made published : Time) (s : Schema) (items : List RowItem) (begins : t
 
   dated : (d : Schema) → Has d (s ∷ e ∷ []) → time_le d.modified published ≡ true
   unfolding changed_schema
-  dated d (inl is) = rw (is, first.1) (le-from_lt made published later)
+  dated d (inl is) = rw (is, first.1) (lt-le made published later)
   dated d (inr (inl is)) = rw is (le-refl published)
   dated d (inr (inr none)) = absurd none
 
@@ -114,8 +111,8 @@ module _ (made published : Time) (s : Schema) (items : List RowItem) (begins : t
   made-orderly sized = record {
     id_is = refl;
     schemas = own;
-    facts = λ f has. rw (map-dated (put_anew made) made (λ i. refl) items f has) (le-from_lt made published later);
-    threshold = zero-least published;
+    facts = λ f has. rw (map-dated (put_anew made) made (λ i. refl) items f has) (lt-le made published later);
+    threshold = zero-le published;
     sized = λ f has. all items f sized has;
     dated = dated;
     ascend = ascend;
@@ -235,7 +232,7 @@ module _ (ids : List (ℕ × ℕ)) (to : Target) (made : Time) where
       by None e = (let no : ⊥ = omega (arith, above, e) in absurd no)
       by (Some x) e = ap Some e
 
-  pub rows-from : (id : ℕ) (chosen : List Schema) (rows : List (List Entry)) (items : List (List RowItem)) → 0 < id → ids_of (map (remapped_schema ids to made) chosen) ≡ range_with_len id (length chosen) → AreRowsOf made chosen rows items
+  pub rows-from : (id : ℕ) (chosen : List Schema) (rows : List (List Entry)) (items : List (List RowItem)) → 0 < id → ids_of (map (remapped_schema ids to made) chosen) ≡ range_with_len id (length chosen) → AreRowsOfEach made chosen rows items
       → AreRowsFrom ids made id (map (remapped_schema ids to made) chosen) rows items
   unfolding restored_schema
   rows-from id [] [] [] above order has = tt
@@ -264,19 +261,19 @@ module _ (ids : List (ℕ × ℕ)) (to : Target) (made : Time) where
 
 pub adding : (c moved : ClusterState) (ids : List (ℕ × ℕ)) (to : Target) (made published : Time) (old : List Table) (chosen ss : List Schema) (rows : List (List Entry)) (items : List (List RowItem)) → Keeps c old
     → next c.clock ≡ Some made → next made ≡ Some published → moved.clock ≡ published → moved.schemas.tables ≡ c.schemas.tables → moved.store ≡ c.store → moved.events ≡ c.events
-    → ss ≡ map (remapped_schema ids to made) chosen → ids_of ss ≡ range_with_len (next_id c.schemas) (length chosen) → AreRowsOf made chosen rows items
+    → ss ≡ map (remapped_schema ids to made) chosen → ids_of ss ≡ range_with_len (next_id c.schemas) (length chosen) → AreRowsOfEach made chosen rows items
     → IsAdding moved ids made published ss rows (old ++ made_tables made published ss items)
 adding c moved ids to made published old chosen ss rows items k made_is published_is clock schemas store events is order has =
     let n : length c.schemas.tables ≡ length old = ap length (sym k.schemas) ∙ length-map old (λ (x : Table). x.descriptors) in
     let lt = next-later c.clock made made_is in
-    let le : time_le c.clock published ≡ true = le-trans c.clock made published (le-from_lt c.clock made lt) (le-from_lt made published (next-later made published published_is)) in
+    let le : time_le c.clock published ≡ true = le-trans c.clock made published (lt-le c.clock made lt) (lt-le made published (next-later made published published_is)) in
     let order' : ids_of (map (remapped_schema ids to made) chosen) ≡ range_with_len (100 + length old) (length chosen) = ap ids_of (sym is) ∙ (order ∙ ap (λ (k : ℕ). range_with_len (100 + k) (length chosen)) n) in
     record {
       tables = old;
       items = items;
       keeps = keeps-as c moved old k schemas store events (subst (λ (x : Time). time_le c.clock x ≡ true) (sym clock) le);
       clock = clock;
-      begins = lt-weaker zero_time c.clock made (zero-least c.clock) lt;
+      begins = le-lt-lt zero_time c.clock made (zero-le c.clock) lt;
       rows = subst (λ (xs : List Schema). AreRowsFrom ids made (100 + length old) xs rows items) (sym is) (rows-from ids to made (100 + length old) chosen rows items (omega arith) order' has);
       all_are = refl;
     }

@@ -7,7 +7,7 @@ use Rattle.table_descriptors.specs.declared.changes.Change.{Change}
 use Rattle.table_descriptors.specs.declared.changes.Change.TheVariants.{Become}
 use Rattle.table_descriptors.specs.declared.columns.State.TheVariants.{Dropped}
 use Rattle.table_descriptors.specs.Descriptors.{Schema, IsProperSchema, bad_change, changed_schema, new_schema}
-use Rattle.history_model.specs.Histories.{Table, Found}
+use Rattle.history_model.specs.Histories.{Table}
 use Rattle.schema_catalog.specs.declared.faults.CatalogFault.{CatalogFault}
 use Rattle.schema_catalog.specs.Catalogs.{Schemas, database_fault, with_database, table_fault, next_id, first_schema, with_table, change_fault, drop_fault, dropped, with_descriptor}
 use Rattle.reply_texts.specs.declared.refusals.Refusal.{Refusal}
@@ -20,10 +20,10 @@ use Rattle.machine_model.specs.Tables.{create_database, create_table, alter, dro
 use Rattle.cluster_core.specs.ClusterView.{ClusterState}
 use Rattle.cluster_core.specs.Finding.{found_in}
 use Rattle.cluster_core.specs.Standing.{Keeps, machine_of, IsStepped, Refuses}
-use Rattle.fact_model.proofs.TimeLaws.{le-refl}
+use Rattle.mvcc_keys.proofs.TimeOrder.{le-refl}
 use Rattle.cluster_core.proofs.KeyKinds.{kinds-kept}
 use Rattle.cluster_core.proofs.Kept.{next-later, in_force-has, redated, keeps-as, keeps-new, keeps-described}
-use Rattle.cluster_core.proofs.Looking.{Sees, sees}
+use Rattle.cluster_core.proofs.Looking.{Sees, found_by, sees}
 use Rattle.cluster_core.proofs.Flow.{draws, missing, finds, passes, stops, does, catalog-is}
 
 -- ---- CREATE DATABASE
@@ -79,17 +79,14 @@ module _ (name : List ℕ × List ℕ) (change : Change) where
   unfolding alter
   alter-missing c t draw e tables k = draws (machine_of c tables) _ t draw ∙ missing c tables name t _ k e
 
-  abbrev found : (tables : List Table) (t : Time) (id : ℕ) (d : Schema) → Sees tables name t id d → Found
-  found tables t id d w = record { place = w.place; table = w.table; schema = d }
-
   reach : (c : ClusterState) (tables : List Table) (t : Time) (id : ℕ) (d : Schema) → next c.clock ≡ Some t → Keeps c tables → (w : Sees tables name t id d)
       → alter (machine_of c tables) name change
-      ≡ judged (machine_of c tables) (offline_refusal name d ∷ catalog_refusal (change_fault c.schemas t d change) ∷ []) (redescribed (machine_of c tables) (found tables t id d w) (changed_schema d change t))
+      ≡ judged (machine_of c tables) (offline_refusal name d ∷ catalog_refusal (change_fault c.schemas t d change) ∷ []) (redescribed (machine_of c tables) (found_by name tables t id d w) (changed_schema d change t))
   unfolding alter
   reach c tables t id d draw k w =
       let m = machine_of c tables in
       draws m _ t draw ∙ (finds c tables name t id d _ k w
-      ∙ ap (λ (s : Schemas). judged m (offline_refusal name d ∷ catalog_refusal (change_fault s t d change) ∷ []) (redescribed m (found tables t id d w) (changed_schema d change t))) (catalog-is c tables k))
+      ∙ ap (λ (s : Schemas). judged m (offline_refusal name d ∷ catalog_refusal (change_fault s t d change) ∷ []) (redescribed m (found_by name tables t id d w) (changed_schema d change t))) (catalog-is c tables k))
 
   pub alter-offline : (c : ClusterState) (t : Time) (id : ℕ) (d : Schema) → next c.clock ≡ Some t → found_in c.schemas name t ≡ Some (id, d)
       → (refusal : Refusal) → offline_refusal name d ≡ Some refusal → Refuses c (λ m. alter m name change) refusal
@@ -117,7 +114,7 @@ module _ (name : List ℕ × List ℕ) (change : Change) where
       rw (is, version-is) (does new _ (TableChanged id (d.version + 1) t) _
       (rw place (keeps-described c t tables w.place w.table d e k w.got (next-later c.clock t draw) (in_force-has w.table.descriptors t d w.force) refl (kinds-kept d change t proper (fine-change c.schemas t d change fine)) refl))
       (reach c tables t id d draw k w ∙ (passes m (offline_refusal name d) _ _ public ∙ (passes m (catalog_refusal (change_fault c.schemas t d change)) [] _ (ap catalog_refusal fine)
-      ∙ ap (λ (i : ℕ). answered (with_described m (found tables t id d w) e) (TableChanged i (d.version + 1) t)) same))))
+      ∙ ap (λ (i : ℕ). answered (with_described m (found_by name tables t id d w) e) (TableChanged i (d.version + 1) t)) same))))
 
 -- ---- DROP TABLE
 

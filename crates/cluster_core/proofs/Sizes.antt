@@ -1,18 +1,19 @@
 -- What was tested for its size takes no more bytes than a layer can hold.
-use Rattle.std.proofs.Common.{inl, inr, ◌≡◌, ℕ, ◌+◌, ◌≤◌, Bool, true, false, nat_lt, refl, sym, ap, ◌∙◌, arith, List, [], ◌∷◌, map, length, Option, Some, None, if◌then◌else◌}
+use Rattle.std.proofs.Common.{inl, inr, ◌≡◌, ℕ, ◌+◌, ◌≤◌, Bool, true, false, refl, sym, ap, ◌∙◌, List, [], ◌∷◌, map, length, Option, Some, None, if◌then◌else◌}
 use Rattle.std.proofs.lemmas.Bool.{cases_Bool}
-use Rattle.std.proofs.lemmas.Bool.Decides.{nat_tests}
 use Rattle.mvcc_keys.specs.Times.{Time, IsTime}
 use Rattle.row_codec.specs.declared.rows.Datum.{Datum}
 use Rattle.row_codec.specs.RowValues.{row_value}
 use Rattle.table_descriptors.specs.Descriptors.{Schema, key_kinds}
-use Rattle.fact_model.specs.Facts.{Del, DelRange, Has}
+use Rattle.fact_model.specs.Facts.{Del, DelRange}
+use Rattle.list_laws.specs.Members.{Has}
 use Rattle.history_model.specs.Rows.{Key, RowFact, cells_in, key_of, put_of}
 use Rattle.history_model.specs.RowTests.{columns_len, first_number, is_large_key, is_large_row, is_empty_range, large_key, large_row, wrong_row, wrong_key, repeated_row, repeated_key}
 use Rattle.table_rows.specs.declared.faults.RowsFault.{RowsFault}
 use Rattle.table_rows.specs.declared.faults.RowsFault.TheVariants.{EmptyRange}
 use Rattle.table_rows.specs.Checks.{first_fault, wrong_fault, large_fault, repeated_fault, rows_fault, keys_fault, range_fault}
 use Rattle.layer_objects.specs.Storable.{IsSized}
+use Rattle.list_laws.proofs.Orderings.{not-lt-above}
 
 second : (a b c : Option RowsFault) → first_fault (a ∷ b ∷ c ∷ []) ≡ None → b ≡ None
 second None None c e = refl
@@ -35,16 +36,13 @@ none-first test n (y ∷ ys) e x has = elim (cases_Bool (test y)) [
     here f later (inl is) = ap test is ∙ f
     here f later (inr more) = later more
 
-small : (n m : ℕ) → nat_lt n m ≡ false → m ≤ n
-small n m e = grind (arith, nat_tests)
-
 fits : (kinds : List _) (key : Key) → is_large_key kinds key ≡ false → columns_len kinds key ≤ 4096
-fits kinds key e = small 4096 (columns_len kinds key) e
+fits kinds key e = not-lt-above 4096 (columns_len kinds key) e
 
 both-fit : (d : Schema) (t : Time) (row : List Datum) → IsTime t → is_large_row d row ≡ false → IsSized (key_kinds d) (put_of d t row)
 both-fit d t row time e = elim (cases_Bool (is_large_key (key_kinds d) (key_of d row))) [
   | inl large ↦ absurd (let no : true ≡ false = rw large at e in cc no)
-  | inr fine ↦ (fits (key_kinds d) (key_of d row) fine, small 32768 (length (row_value (cells_in d.key_columns d.columns row))) (rw fine at e), time)
+  | inr fine ↦ (fits (key_kinds d) (key_of d row) fine, not-lt-above 32768 (length (row_value (cells_in d.key_columns d.columns row))) (rw fine at e), time)
 ]
 
 -- each of some facts that are made of what was tested

@@ -1,23 +1,22 @@
 -- What the chunks of a full layer hold of its tables.
-use Rattle.std.proofs.Common.{◌≡◌, ◌∙◌, inl, inr, ℕ, zero, suc, ◌+◌, ◌-◌, ◌<◌, ◌≤◌, ◌^◌, Bool, true, false, ◌&&◌, ◌==◌, cond, nat_lt, refl, sym, ap, ap₂, subst, subst₂, arith, get_or, List, [], ◌∷◌, ◌++◌, length, map, filter, take, drop, Option, Some, None, filter_map, option_map, position, slice_get, unwrap_or}
+use Rattle.std.proofs.Common.{◌≡◌, ◌∙◌, inl, inr, ℕ, zero, suc, ◌+◌, ◌-◌, ◌<◌, ◌≤◌, ◌^◌, Bool, true, false, ◌==◌, cond, nat_lt, refl, sym, ap, ap₂, subst, subst₂, arith, get_or, List, [], ◌∷◌, ◌++◌, length, map, filter, take, drop, Option, Some, None, filter_map, option_map, position, slice_get, unwrap_or}
 use Rattle.std.specs.List.{AllByRecursion, cons_option, position_or_len}
-use Rattle.std.specs.Prelude.{option_and_then, reverse, if◌then◌else◌}
+use Rattle.std.specs.Prelude.{if◌then◌else◌}
 use Rattle.std.specs.Global.{Vec}
-use Rattle.std.specs.Str.{bytes_eq}
 use Rattle.std.proofs.lemmas.Bool.Decides.{nat_tests}
 use Rattle.std.proofs.lemmas.List.{length-drop, length-map, map-append, take-append-drop, take_more}
 use Rattle.std.proofs.lemmas.List.Sums.{sum_by-cons}
 use Rattle.std.proofs.lemmas.Option.{slice_get-map, slice_get_cases, slice_get_within}
 use Rattle.std.proofs.lemmas.List.Folds.{find_at}
-use Rattle.mvcc_keys.specs.Times.{Time, time_le, zero_time}
+use Rattle.mvcc_keys.specs.Times.{Time, zero_time}
 use Rattle.mvcc_keys.specs.declared.entries.Entry.{Entry}
 use Rattle.row_codec.specs.declared.rows.Kind.{Kind}
 use Rattle.table_descriptors.specs.Descriptors.{Schema, key_kinds}
-use Rattle.fact_model.specs.Facts.{Has}
+use Rattle.list_laws.specs.Members.{Has}
+use Rattle.list_laws.proofs.Members.{all-weaker}
 use Rattle.fact_model.specs.Scans.{scan}
-use Rattle.fact_model.proofs.Members.{AllByRecursion-has, map-has}
 use Rattle.history_model.specs.Rows.{RowFact}
-use Rattle.history_model.specs.Histories.{Table, in_force, schemas_of}
+use Rattle.history_model.specs.Histories.{Table, schemas_of}
 use Rattle.history_model.specs.Layers.{Layer}
 use Rattle.version_store.specs.Tables.{Tables}
 use Rattle.table_rows.specs.RowTables.{AreRowFacts, IsRowFact, bytes_of}
@@ -25,11 +24,11 @@ use Rattle.row_codec.specs.RowOrder.{row_cmp}
 use Rattle.span_export.specs.Pieces.{joined}
 use Rattle.introduced_spans.specs.declared.plans.LayerPlan.{LayerPlan}
 use Rattle.introduced_spans.specs.declared.plans.TablePlan.{TablePlan}
-use Rattle.introduced_spans.specs.PlanLaws.{ascend_after, whole_at}
-use Rattle.introduced_spans.specs.Publicity.{is_public, public_at}
+use Rattle.introduced_spans.specs.PlanLaws.{whole_at}
+use Rattle.introduced_spans.specs.Publicity.{public_at}
 use Rattle.introduced_spans.specs.Spans.{descriptors_of, layer_plan, plan_over, scope_ids, span_of}
 use Rattle.introduced_spans.proofs.Fulls.{full-is-whole}
-use Rattle.introduced_spans.proofs.Lists.{all-both, all-each}
+use Rattle.introduced_spans.proofs.Lists.{all-both}
 use Rattle.chunk_file.specs.Chunks.{IsChunk, chunk_bytes}
 use Rattle.chunk_file.specs.Entries.{IsStored, are_ordered, is_entry}
 use Rattle.outside_world.specs.Objects.{Objects, at}
@@ -45,18 +44,19 @@ use Rattle.backup_job.specs.Jobs.{entries_in as entries_of_plan}
 use Rattle.backup_job.proofs.Cutting.{size_pos}
 use Rattle.backup_job.proofs.Ordered.{pieces_chunks}
 use Rattle.backup_job.proofs.Remaining.{all_left}
-use Rattle.layer_objects.specs.Objects.{bare, by_id, covers, described, name_of, objects_of, plan_of, rows_of, table_facts, table_kinds, table_threshold}
+use Rattle.layer_objects.specs.Objects.{bare, by_id, described, name_of, objects_of, plan_of, rows_of, table_facts, table_kinds, table_threshold}
 use Rattle.layer_objects.specs.Storable.{AreStorable, IsFull, IsSized, MayBeWritten, manifest_of}
-use Rattle.layer_objects.proofs.Final.{reverse-has}
 use Rattle.layer_objects.proofs.Sizes.{cut-all}
+use Rattle.layer_objects.proofs.Writable.{covers-full, schemas-ascend}
 use Rattle.layer_rows.specs.Putting.{stored_put}
 use Rattle.layer_rows.specs.Reading.{AreEntriesOf, AreStoredAt}
 use Rattle.layer_rows.proofs.Exported.{scans-stored}
 use Rattle.layer_rows.proofs.Stored.{plan-ordered}
-use Rattle.machine_model.specs.Restores.{chosen_by, chosen_tables, if_chosen}
+use Rattle.machine_model.specs.Restores.{chosen_by, chosen_tables}
 use Rattle.cluster_core.specs.Chains.{AreTypedRows, IsStanding, entries_in, stored_rows}
-use Rattle.cluster_core.proofs.Covers.{find-passes, has-place}
-use Rattle.cluster_core.proofs.Lists.{find-has, got-has}
+use Rattle.cluster_core.proofs.Ascending.{chosen-has}
+use Rattle.cluster_core.proofs.Covers.{find-passes}
+use Rattle.cluster_core.proofs.Lists.{got-has, got-left}
 use Rattle.cluster_core.proofs.Tables.{by_id-at}
 
 -- ---- lists
@@ -69,11 +69,6 @@ filter_map-has {X} {Y} f y (x ∷ xs) has = by (f x) refl has (filter_map-has f 
     by None e h more = more h
     by (Some z) e (inl same) more = (x, e ∙ ap (λ w. Some w) (sym same))
     by (Some z) e (inr h) more = more h
-
-got-left : {X : Type 0} (xs ys : List X) (i : ℕ) (x : X) → slice_get xs i ≡ Some x → slice_get (xs ++ ys) i ≡ Some x
-got-left [] ys i x e = cc e
-got-left (z ∷ zs) ys zero x e = e
-got-left (z ∷ zs) ys (suc i) x e = got-left zs ys i x e
 
 got-right : {X : Type 0} (xs ys : List X) (i : ℕ) → slice_get (xs ++ ys) (length xs + i) ≡ slice_get ys i
 got-right [] ys i = ap (slice_get ys) (omega arith)
@@ -144,17 +139,6 @@ module _ (tables : List Table) (r : Layer) (storable : AreStorable tables) where
       by true h = absurd h
       by false h = there (slice_get tables (id - 100)) refl (subst (λ (o : Option (List Schema)). Has d (unwrap_or o [])) (slice_get-map (λ (t : Table). t.descriptors) tables (id - 100)) h)
 
-  chosen-has : (database : List ℕ) (t : Time) (ds : List Schema) (d : Schema) → chosen_by database t ds ≡ Some d → Has d ds
-  chosen-has database t ds d e = by (in_force ds t) refl e
-    where
-      public-by : (b : Bool) (x : Schema) → Has x ds → (if b then Some x else None) ≡ Some d → Has d ds
-      public-by true x h e = let same : x ≡ d = cc e in subst (λ y. Has y ds) same h
-      public-by false x h e = cc e
-
-      by : (o : Option Schema) → in_force ds t ≡ o → option_and_then (if_chosen database) o ≡ Some d → Has d ds
-      by None is e = cc e
-      by (Some x) is e = public-by (is_public x && bytes_eq x.database database) x (reverse-has ds x (find-has (λ (y : Schema). time_le y.modified t) (reverse ds) x is)) e
-
   pub chosen-known : (database : List ℕ) (t : Time) (d : Schema) → Has d (chosen_tables tables database t r) → IsKnown d
   unfolding chosen_tables
   chosen-known database t d has =
@@ -179,21 +163,9 @@ module _ (tables : List Table) (r : Layer) (storable : AreStorable tables) (full
   abbrev shown : List ℕ
   shown = filter (λ id. public_at (descriptors_of D id) r.end) (scope_ids D r.scope)
 
-  dated : AllByRecursion (λ ds. ascend_after zero_time ds ≡ true) D
-  dated = AllByRecursion-has (λ ds. ascend_after zero_time ds ≡ true) D (λ ds has.
-      let t = map-has (λ (x : Table). x.descriptors) ds tables has in
-      let place = has-place t.0 tables t.1 in
-      subst (λ xs. ascend_after zero_time xs ≡ true) (sym t.2) (storable place.0 t.0 place.1).ascend)
-
-  covers-is : covers r ≡ record { start = zero_time; end = r.end; floor = zero_time; history = false }
-  covers-is =
-      ap (λ (s : Time). record { start = s; end = r.end; floor = r.floor; history = r.history }) full.start
-      ∙ (ap (λ (f : Time). record { start = zero_time; end = r.end; floor = f; history = r.history }) full.floor
-      ∙ ap (λ (b : Bool). record { start = zero_time; end = r.end; floor = zero_time; history = b }) full.history)
-
   plans-are : plans ≡ map (whole_at r.end) shown
   unfolding plan_of layer_plan span_of
-  plans-are = ap (λ (p : LayerPlan). p.tables) (ap (plan_over D r.scope) covers-is ∙ (full-is-whole D r.scope r.end (by_id zero_time table_threshold tables) dated).plan)
+  plans-are = ap (λ (p : LayerPlan). p.tables) (ap (plan_over D r.scope) (covers-full r full) ∙ (full-is-whole D r.scope r.end (by_id zero_time table_threshold tables) (schemas-ascend tables storable)).plan)
 
   tables-are : (manifest_of tables r).tables ≡ parts part (pieces_of h) plans
   tables-are = ap (with_each (bare tables r).tables) (sym (all_left h plans))
@@ -229,8 +201,8 @@ module _ (tables : List Table) (r : Layer) (storable : AreStorable tables) (full
         let typed = subst (λ ks. AllByRecursion (λ (e : Entry). (is_entry id ks e ≡ true) × IsStored e) (entries_of_plan h plan)) are (may.entries plan (got-has plans place plan got)) in record {
           infos = refl;
           chunks = all-both (IsChunk id kinds) (AllByRecursion IsStored) (pieces_of h plan)
-              (pieces_chunks h kinds plan (all-each (λ e. (is_entry id kinds e ≡ true) × IsStored e) (λ e. is_entry id kinds e ≡ true) (λ e t. t.0) (entries_of_plan h plan) typed))
-              (cut-all IsStored chunk_size (entries_of_plan h plan) (all-each (λ e. (is_entry id kinds e ≡ true) × IsStored e) IsStored (λ e t. t.1) (entries_of_plan h plan) typed));
+              (pieces_chunks h kinds plan (all-weaker (λ e. (is_entry id kinds e ≡ true) × IsStored e) (λ e. is_entry id kinds e ≡ true) (λ e t. t.0) (entries_of_plan h plan) typed))
+              (cut-all IsStored chunk_size (entries_of_plan h plan) (all-weaker (λ e. (is_entry id kinds e ≡ true) × IsStored e) IsStored (λ e t. t.1) (entries_of_plan h plan) typed));
           ordered = ap (are_ordered None) (joined-cut chunk_size size_pos (entries_of_plan h plan)) ∙ plan-ordered h id plan.plan;
           there = λ i piece is. there-at place plan i piece got is;
         }

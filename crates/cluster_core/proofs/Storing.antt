@@ -4,9 +4,9 @@ use Rattle.std.specs.Prelude.{IfErr}
 use Rattle.std.proofs.lemmas.List.{map-append}
 use Rattle.mvcc_keys.specs.Times.{Time, time_le}
 use Rattle.table_descriptors.specs.declared.scopes.Scope.{Scope}
-use Rattle.fact_model.specs.Facts.{Has}
-use Rattle.fact_model.proofs.Members.{has-append_cases, map-has}
-use Rattle.fact_model.proofs.TimeLaws.{le-refl, le-trans}
+use Rattle.list_laws.specs.Members.{Has}
+use Rattle.list_laws.proofs.Members.{has-append_cases, map-has}
+use Rattle.mvcc_keys.proofs.TimeOrder.{le-refl, le-trans}
 use Rattle.history_model.specs.Histories.{Table}
 use Rattle.history_model.specs.Layers as recorded
 use Rattle.outside_world.specs.Disk.{View}
@@ -29,6 +29,7 @@ use Rattle.backup_job.proofs.Starts.{bare_count}
 use Rattle.layer_objects.specs.Objects.{described, name_of, objects_of, plan_of, rows_of}
 use Rattle.layer_objects.specs.Past.{KeepsPast}
 use Rattle.layer_objects.specs.Storable.{manifest_of, older_manifest}
+use Rattle.layer_objects.proofs.Names.{objects-name}
 use Rattle.layer_objects.proofs.Writable.{manifests-tell}
 use Rattle.machine_model.specs.Machine.{Backup, Machine, Stepped, answered}
 use Rattle.machine_model.specs.Machine as machine
@@ -173,10 +174,6 @@ module _ (c : ClusterState) (tables : List Table) (k : Keeps c tables) (b : HasB
     few = let n = told.1 in let l = j.may.few.few in omega (arith, n, l)
 
 -- ---- the disk
-
-objects-name : (tables : List Table) (q : recorded.Layer) → (objects_of tables q).name ≡ name_of q
-unfolding objects_of
-objects-name tables q = refl
 
 -- what holds of the layer of a backup over later tables
 pub record IsPast (tables new : List Table) (q : recorded.Layer) : Type 0 where

@@ -5,7 +5,7 @@ use Rattle.std.proofs.lemmas.Bool.{cases_Bool}
 use Rattle.std.proofs.lemmas.Bool.Decides.{nat_tests}
 use Rattle.mvcc_keys.specs.Times.{Time, time_lt, zero_time}
 use Rattle.row_codec.specs.declared.rows.Kind.{Kind}
-use Rattle.fact_model.specs.Facts.{Has}
+use Rattle.list_laws.specs.Members.{Has}
 use Rattle.history_model.specs.Rows.{RowFact}
 use Rattle.history_model.specs.Histories.{Table}
 use Rattle.version_store.specs.Tables.{Tables}

@@ -1,13 +1,14 @@
 -- Versions stay within the number of descriptors that were made, so a next version can be.
-use Rattle.std.proofs.Common.{◌≡◌, ◌⊎◌, inl, inr, ℕ, zero, suc, ◌-◌, ◌≤◌, nat_lt, refl, sym, ap, subst, arith, List, [], ◌∷◌, ◌++◌, Option, Some, None, unwrap_or, slice_get, slice_set}
+use Rattle.std.proofs.Common.{◌≡◌, ◌⊎◌, inl, inr, ℕ, zero, suc, ◌+◌, ◌-◌, ◌<◌, ◌≤◌, nat_lt, refl, sym, ap, subst, arith, List, [], ◌∷◌, ◌++◌, Option, Some, None, unwrap_or, slice_get, slice_set}
 use Rattle.std.proofs.lemmas.Bool.{cases_Bool}
 use Rattle.mvcc_keys.specs.Times.{Time}
 use Rattle.table_descriptors.specs.Descriptors.{Schema}
-use Rattle.fact_model.specs.Facts.{Has}
-use Rattle.fact_model.proofs.Members.{has-append_cases}
+use Rattle.list_laws.specs.Members.{Has}
+use Rattle.list_laws.proofs.Members.{has-append_cases}
 use Rattle.history_model.specs.Histories.{in_force}
 use Rattle.schema_catalog.specs.Catalogs.{Schemas, history_of, id_named, IsChangeable, AreChangeable, with_descriptor, dropped, drop_each}
-use Rattle.cluster_core.specs.ClusterView.{AreWithin}
+use Rattle.cluster_core.specs.declared.cluster.Cluster.TheInside.{Inside}
+use Rattle.cluster_core.specs.ClusterView.{AreWithin, IsSound}
 use Rattle.cluster_core.specs.Finding.{found_in}
 use Rattle.cluster_core.proofs.Lists.{got-has}
 use Rattle.cluster_core.proofs.Kept.{in_force-has}
@@ -90,3 +91,18 @@ within-new n m tables e within less small ds d has is = elim (has-append_cases d
     one : Has ds ((e ∷ []) ∷ []) → d.version ≤ m
     one (inl same) = one-within m d e small (subst (Has d) same is)
     one (inr none) = absurd none
+
+-- ---- a table with a descriptor more
+
+-- what holds of a cluster's numbers holds after a command that described a table anew
+pub redescribed-keeps : (c : Inside) (name : List ℕ × List ℕ) (at : Time) (id : ℕ) (d e : Schema) (schemas : Schemas) → IsSound c → c.changes < c.steps → found_in c.catalog name at ≡ Some (id, d)
+    → (d.version ≤ c.changes + 2 → e.version ≤ c.changes + 1 + 2) → schemas ≡ with_descriptor c.catalog (id - 100) e → IsSound (record c { clock = at; catalog = schemas; changes = c.changes + 1 })
+redescribed-keeps c name at id d e schemas sound less found version made = record {
+  room = sound.room;
+  versions = subst (λ (s : Schemas). AreWithin (c.changes + 1 + 2) s.tables) (sym made)
+      (within-described (c.changes + 2) (c.changes + 1 + 2) c.catalog (id - 100) e sound.versions (omega arith) (version (version-within (c.changes + 2) c.catalog name at id d sound.versions found)));
+  changes = omega (arith, less);
+  steps = sound.steps;
+  few = sound.few;
+  jobs = sound.jobs;
+}

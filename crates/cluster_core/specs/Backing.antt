@@ -3,9 +3,8 @@ use Rattle.std.specs.Prelude.{◌≡◌, ℕ, List, [], ◌∷◌, ◌++◌, Opt
 use Rattle.mvcc_keys.specs.Times.{Time, next, time_lt}
 use Rattle.table_descriptors.specs.declared.scopes.Scope.{Scope}
 use Rattle.layer_manifest.specs.declared.manifest.Manifest.{Manifest}
-use Rattle.layer_manifest.specs.Manifests.{chunk_count}
+use Rattle.layer_manifest.specs.Manifests.{chunk_count, entry_count}
 use Rattle.layer_model.specs.declared.names.LayerName.{LayerName}
-use Rattle.backup_job.specs.Contents.{entry_count}
 use Rattle.backup_job.specs.Jobs.{Job}
 use Rattle.layer_objects.specs.Storable.{IsFull, MayBeWritten, job_of}
 use Rattle.layer_book.specs.Books.{Book, name_in, with_layer}

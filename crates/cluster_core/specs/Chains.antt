@@ -5,18 +5,19 @@ use Rattle.mvcc_keys.specs.Times.{Time}
 use Rattle.std.specs.List.{AllByRecursion}
 use Rattle.std.specs.Ordering.{is_lt, nat_cmp}
 use Rattle.std.specs.Cmp.Lexicographic.{slice_cmp}
-use Rattle.key_encoding.specs.Coding.{AreBytes}
+use Rattle.list_laws.specs.Bytes.{AreBytes}
+use Rattle.list_laws.specs.Members.{Has}
+use Rattle.mvcc_keys.specs.Entries.{key_of}
 use Rattle.key_encoding.specs.Reading.{read_uvarint}
 use Rattle.key_encoding.specs.declared.fault.KeyFault.{KeyFault}
 use Rattle.row_codec.specs.declared.rows.Kind.{Kind}
 use Rattle.mvcc_keys.specs.declared.entries.Entry.{Entry}
 use Rattle.table_descriptors.specs.Descriptors.{Schema, key_kinds}
-use Rattle.fact_model.specs.Facts.{Has, Put}
+use Rattle.fact_model.specs.Facts.{Put}
 use Rattle.history_model.specs.Histories.{Table}
 use Rattle.outside_world.specs.Objects.{Objects}
 use Rattle.history_model.specs.Layers.{Layer}
 use Rattle.history_model.specs.Rows.{RowItem}
-use Rattle.chunk_file.specs.Entries.{key_of}
 use Rattle.layer_manifest.specs.declared.manifest.Manifest.{Manifest}
 use Rattle.layer_model.specs.declared.names.LayerName.{LayerName}
 use Rattle.layer_model.specs.declared.names.Part.TheVariants.{Chunk}

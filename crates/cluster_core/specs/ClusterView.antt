@@ -2,7 +2,7 @@
 use Rattle.std.specs.Prelude.{ℕ, ◌+◌, ◌≤◌, Bool, List, length, map}
 use Rattle.mvcc_keys.specs.Times.{Time}
 use Rattle.table_descriptors.specs.Descriptors.{Schema}
-use Rattle.fact_model.specs.Facts.{Has}
+use Rattle.list_laws.specs.Members.{Has}
 use Rattle.schema_catalog.specs.Catalogs.{Schemas}
 use Rattle.version_store.specs.declared.mvcc_map.MvccMap.{MvccMap}
 use Rattle.history_model.specs.Layers.{Layer}

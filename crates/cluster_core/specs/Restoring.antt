@@ -9,7 +9,7 @@ use Rattle.row_codec.specs.declared.rows.Kind.{Kind}
 use Rattle.table_descriptors.specs.declared.changes.Change.TheVariants.{Become}
 use Rattle.table_descriptors.specs.declared.columns.State.TheVariants.{Public}
 use Rattle.table_descriptors.specs.Descriptors.{Schema, changed_schema, key_kinds}
-use Rattle.fact_model.specs.Facts.{Has}
+use Rattle.list_laws.specs.Members.{Has}
 use Rattle.history_model.specs.Rows.{RowItem}
 use Rattle.history_model.specs.Histories.{Table}
 use Rattle.version_store.specs.declared.mvcc_map.MvccMap.{MvccMap}
@@ -47,13 +47,13 @@ pub record AreStoredRows (made : Time) (id : ℕ) (kinds : List Kind) (entries :
   pub sized : (i : RowItem) → Has i items → IsSized kinds (put_anew made i)
 
 -- the same of each of some tables
-abbrev pub AreRowsOf : Time → List Schema → List (List Entry) → List (List RowItem) → Type 0
-AreRowsOf made [] [] [] = Unit {0}
-AreRowsOf made [] [] (i ∷ is) = ⊥
-AreRowsOf made [] (r ∷ rs) is = ⊥
-AreRowsOf made (d ∷ ds) [] is = ⊥
-AreRowsOf made (d ∷ ds) (r ∷ rs) [] = ⊥
-AreRowsOf made (d ∷ ds) (r ∷ rs) (i ∷ is) = AreStoredRows made d.id (key_kinds d) r i × AreRowsOf made ds rs is
+abbrev pub AreRowsOfEach : Time → List Schema → List (List Entry) → List (List RowItem) → Type 0
+AreRowsOfEach made [] [] [] = Unit {0}
+AreRowsOfEach made [] [] (i ∷ is) = ⊥
+AreRowsOfEach made [] (r ∷ rs) is = ⊥
+AreRowsOfEach made (d ∷ ds) [] is = ⊥
+AreRowsOfEach made (d ∷ ds) (r ∷ rs) [] = ⊥
+AreRowsOfEach made (d ∷ ds) (r ∷ rs) (i ∷ is) = AreStoredRows made d.id (key_kinds d) r i × AreRowsOfEach made ds rs is
 
 -- stored rows of an older table that becomes this one, under the new id
 pub record AreRowsFor (ids : List (ℕ × ℕ)) (made : Time) (id : ℕ) (s : Schema) (entries : List Entry) (items : List RowItem) : Type 0 where

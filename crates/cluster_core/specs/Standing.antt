@@ -3,7 +3,8 @@ use Rattle.std.specs.Prelude.{◌≡◌, ◌≢◌, ℕ, ◌+◌, ◌-◌, ◌^�
 use Rattle.mvcc_keys.specs.Times.{Time, zero_time, time_le}
 use Rattle.row_codec.specs.declared.rows.Kind.{Kind}
 use Rattle.table_descriptors.specs.Descriptors.{Schema, key_kinds}
-use Rattle.fact_model.specs.Facts.{Has, date}
+use Rattle.fact_model.specs.Facts.{date}
+use Rattle.list_laws.specs.Members.{Has}
 use Rattle.history_model.specs.Rows.{RowFact}
 use Rattle.history_model.specs.Histories.{Table, schemas_of, accepted}
 use Rattle.history_model.specs.Layers.{Layer}

@@ -21,14 +21,14 @@ ghost use Rattle.reply_texts.specs.declared.refusals.Refusal.{Refusal};
 
 use crate::cluster::Cluster;
 use crate::finding::{
-    check_database, check_names, check_past, check_states, drawn, ids_named, is_time,
+    check_database, check_names, check_past, check_states, draw_time, ids_named, is_time,
 };
 use crate::halts::Halt;
 use crate::jobs::{Job, push_job};
-use backup_job::{BackupJob, chunk_count, entry_count};
+use backup_job::BackupJob;
 use collection_dir::{DirFault, forget_layer};
 use introduced_spans::{LayerPlan, Threshold, plan_layer};
-use layer_manifest::Manifest;
+use layer_manifest::{Manifest, chunk_count, entry_count};
 use layer_model::LayerName;
 use mvcc_keys::{Hlc, Items, Memory};
 use outside_world::Disk;
@@ -51,7 +51,7 @@ fn end_of(clock: Hlc, at: Option<Hlc>) -> Result<(Hlc, Hlc), Halt>
             Ok((end, clock))
         }
         None => {
-            let end = drawn(clock)?;
+            let end = draw_time(clock)?;
             Ok((end, end))
         }
     }
@@ -82,6 +82,15 @@ fn backup_done(alloc: Global, layer: &LayerName, m: &Manifest) -> Result<Answer,
         entries: entry_count(m.tables.as_slice()),
         chunks: chunk_count(m.tables.as_slice()),
     })
+}
+
+/// The name and the manifest of a job's layer.
+fn copy_layer(alloc: Global, job: &BackupJob) -> Result<(LayerName, Manifest), Memory>
+    ensures name { IfOk result (λ x. x.0 ≡ job.now.name) }
+    ensures manifest { IfOk result (λ x. x.1 ≡ job.now.manifest) }
+{
+    let layer = job.layer().copy(alloc)?;
+    Ok((layer, job.manifest().copy(alloc)?))
 }
 
 // ---- layers of a source
@@ -199,7 +208,18 @@ impl Cluster {
         Ok(job)
     }
 
-    /// Keeps a job that is done, and its layer.
+    /// Adds a job that is done, and its layer.
+    fn keep_layer(&mut self, job: BackupJob) -> Result<(), Memory>
+        requires room { length self.old.jobs < self.old.steps }
+        ensures kept { OnOk result (self.new ≡ with_backup self.old job) }
+        ensures steps { self.new.steps ≡ self.old.steps }
+    {
+        let (layer, manifest) = copy_layer(self.alloc, &job)?;
+        push_job(&mut self.jobs, Job::Backup(job))?;
+        Ok(self.book.add(layer, manifest)?)
+    }
+
+    /// Keeps a job that is done, and its layer, and answers it.
     fn keep_backup(&mut self, job: BackupJob) -> Result<Answer, Memory>
         requires few { chunk_count job.manifest.tables ≤ 1000000 }
         requires room { length self.old.jobs < self.old.steps }
@@ -207,11 +227,8 @@ impl Cluster {
         ensures answer { IfOk result (λ a. a ≡ done_of job.name job.manifest) }
         ensures steps { self.new.steps ≡ self.old.steps }
     {
-        let layer = job.layer().copy(self.alloc)?;
-        let manifest = job.manifest().copy(self.alloc)?;
-        let answer = backup_done(self.alloc, &layer, &manifest)?;
-        push_job(&mut self.jobs, Job::Backup(job))?;
-        self.book.add(layer, manifest)?;
+        let answer = backup_done(self.alloc, job.layer(), job.manifest())?;
+        self.keep_layer(job)?;
         Ok(answer)
     }
 
@@ -302,8 +319,8 @@ impl Cluster {
         ensures cause { HaltHasCause (D.view disk.old).faults (D.view disk.new).faults result }
     {
         let (end, clock) = end_of(self.clock, at)?;
-        check_names(self.alloc, &self.catalog, tables, end)?;
-        check_states(self.alloc, &self.catalog, tables, end)?;
+        check_names(&self.catalog, tables, end)?;
+        check_states(&self.catalog, tables, end)?;
         let ids = ids_named(self.alloc, &self.catalog, tables, end)?;
         if ids.is_empty() {
             return Err(Halt::Memory);

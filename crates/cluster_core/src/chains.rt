@@ -4,9 +4,9 @@ ghost use Rattle.std.specs.List.{AllByRecursion};
 ghost use Rattle.std.specs.Option.{option_copied};
 ghost use Rattle.std.specs.Str.{bytes_eq};
 ghost use Rattle.key_encoding.specs.Reading.{read_uvarint};
-ghost use Rattle.chunk_file.specs.Entries.{key_of};
-ghost use Rattle.mvcc_keys.specs.Times.{time_le};
-ghost use Rattle.fact_model.specs.Facts.{Has};
+ghost use Rattle.mvcc_keys.specs.Entries.{key_of};
+ghost use Rattle.list_laws.specs.Members.{Has};
+ghost use Rattle.mvcc_keys.specs.Times.{time_le, latest, or_zero};
 ghost use Rattle.history_model.specs.Histories.{Table, in_force};
 ghost use Rattle.history_model.specs.Layers as records;
 ghost use Rattle.table_descriptors.specs.Descriptors.{key_kinds};
@@ -16,7 +16,7 @@ ghost use Rattle.collection_dir.specs.Faults.{DirHasCause, IsDiskFault};
 ghost use Rattle.layer_rows.specs.Reading.{AreEntriesOf};
 ghost use Rattle.introduced_spans.specs.Publicity.{is_public};
 ghost use Rattle.chain_resolver.specs.Ways.{AreOrdered};
-ghost use Rattle.chain_resolver.specs.Cover.{ends_of, later, latest, or_zero};
+ghost use Rattle.chain_resolver.specs.Cover.{ends_of};
 ghost use Rattle.machine_model.specs.Machine.{Machine};
 ghost use Rattle.machine_model.specs.Restores.{chosen_by, chosen_tables, link_of, links_of, time_of};
 ghost use Rattle.cluster_core.specs.ClusterView.{record_of};
@@ -31,7 +31,7 @@ use key_encoding::take_uvarint;
 use layer_manifest::{Manifest, TablePart};
 use layer_model::LayerName;
 use layer_rows::{are_bytes, read_table};
-use mvcc_keys::{Entry, Hlc, Memory};
+use mvcc_keys::{Entry, Hlc, Memory, latest, time_or_zero};
 use outside_world::Disk;
 use reply_texts::Refusal;
 use script_grammar::Src;
@@ -47,41 +47,19 @@ pub(crate) struct Chain {
 
 // ---- the time
 
-fn later(best: Option<Hlc>, time: Hlc) -> Option<Hlc>
-    ensures { result ≡ later best time }
+fn ends_of(alloc: Global, links: &[Layer]) -> Result<Vec<Hlc>, Memory>
+    ensures { IfOk result (λ v. v.items ≡ ends_of links.now) }
 {
-    match best {
-        None => Some(time),
-        Some(greatest) => {
-            if greatest < time {
-                Some(time)
-            } else {
-                Some(greatest)
-            }
-        }
-    }
-}
-
-fn latest_end(links: &[Layer]) -> Option<Hlc>
-    ensures { result ≡ latest (ends_of links.now) }
-{
-    let mut best = None;
-    for link in links {
-        best = later(best, link.end);
-    }
-    best
+    Ok(links.iter().map(|link| link.end).collect(alloc)?)
 }
 
 /// The time that is given, or the greatest end.
-fn time_over(links: &[Layer], at: Option<Hlc>) -> Hlc
-    ensures { result ≡ unwrap_or at (or_zero (latest (ends_of links.now))) }
+fn time_over(alloc: Global, links: &[Layer], at: Option<Hlc>) -> Result<Hlc, Memory>
+    ensures { IfOk result (λ t. t ≡ unwrap_or at (or_zero (latest (ends_of links.now)))) }
 {
     match at {
-        Some(time) => time,
-        None => match latest_end(links) {
-            Some(end) => end,
-            None => Hlc::zero(),
-        },
+        Some(time) => Ok(time),
+        None => Ok(time_or_zero(latest(&ends_of(alloc, links)?))),
     }
 }
 
@@ -170,7 +148,7 @@ fn chain_over(
     ensures fault { IfErr result (λ e. IsUncovered layers.now at e) }
 {
     let links = links_of(alloc, layers)?;
-    let time = time_over(&links, at);
+    let time = time_over(alloc, &links, at)?;
     match resolve(alloc, &links, time) {
         Ok(places) => Ok(Chain {
             time,
@@ -328,6 +306,7 @@ pub(crate) fn read_rows<D: Disk>(
                 Ok(()) => {}
                 Err(Memory) => return Err(DirFault::Memory),
             },
+            // by cases and not by `?`, which would make the fault anew
             Err(fault) => return Err(fault),
         }
     }
@@ -360,20 +339,11 @@ fn is_row(entry: &Entry) -> bool
     }
 }
 
-fn key_of(entry: &Entry) -> &[u8]
-    ensures { result.now ≡ key_of entry.now }
-{
-    match entry {
-        Entry::Put { key, .. } | Entry::Del { key, .. } => key.as_slice(),
-        Entry::Range { lo, .. } => lo.as_slice(),
-    }
-}
-
 fn is_above(last: Option<&Entry>, entry: &Entry) -> bool
     ensures { result ≡ is_above (option_map key_of (option_copied last.entry)) (key_of entry.now) }
 {
     match last {
-        Some(last) => key_of(last).cmp(key_of(entry)).is_lt(),
+        Some(last) => last.key().cmp(entry.key()).is_lt(),
         None => true,
     }
 }

@@ -2,6 +2,7 @@
 ghost use Rattle.std.specs.Prelude.{◌≡◌, ◌≢◌, ◌↔◌, ◌≤◌, ◌<◌, ◌+◌, true, false, length, List, IfOk, IfErr, IfSome, IsNone, OnOk, OnErr};
 ghost use Rattle.mvcc_keys.specs.Times.{time_lt};
 ghost use Rattle.outside_world.specs.Moments.{ChangesOnly};
+ghost use Rattle.machine_model.specs.declared.limits.TheConstants.{EVENTS_MAX, SCRIPT_BYTES_MAX, TABLES_MAX};
 ghost use Rattle.machine_model.specs.Machine.{World, Machine, empty_machine};
 ghost use Rattle.machine_model.specs.Tables.{tick};
 ghost use Rattle.machine_model.specs.Step.{step};
@@ -79,8 +80,8 @@ fn is_before(s: Hlc, t: Hlc) -> bool
 impl Cluster {
     /// A cluster that has done nothing.
     pub fn new(alloc: Global, name: Name, clock: Hlc, limits: Limits) -> Result<Cluster, Memory>
-        requires tables { limits.tables ≤ 4096 }
-        requires events { limits.events ≤ 1000000 }
+        requires tables { limits.tables ≤ TABLES_MAX }
+        requires events { limits.events ≤ EVENTS_MAX }
         ensures stands { IfOk result (λ c. StandsFor c (empty_machine name clock (record { events = limits.events; tables = limits.tables }))) }
         ensures steps { IfOk result (λ c. c.steps ≡ 0) }
         ensures ended { IfOk result (λ c. c.ended ≡ false) }
@@ -203,6 +204,7 @@ impl Cluster {
                 start,
                 end,
             } => self.forget(disk, source, collection, *start, *end),
+            // every other command is executed by `execute_here`
             _ => unreachable!(),
         }
     }
@@ -253,8 +255,8 @@ impl Cluster {
     /// a script may have bytes. The open layers of other clusters, the worlds, have no part in what
     /// is built so far.
     pub fn step<D: Disk>(&mut self, command: &Command, disk: &mut D) -> Result<Reply, RunFault>
-        requires few { self.old.steps < 67108864 }
-        requires stands { (m : Machine) × StandsFor self.old m }
+        requires few { self.old.steps < SCRIPT_BYTES_MAX }
+        requires stands { self.old.ended ≡ false → (m : Machine) × StandsFor self.old m }
         ensures step { (worlds : List World) (m end : Machine) → MayStep self.old m (step worlds m command.now) end (D.view disk.old)
             → Steps self.new (step worlds m command.now) end result (D.view disk.old) (D.view disk.new) }
         ensures stays { OnOk result ((m : Machine) × StandsFor self.new m) }

@@ -1,13 +1,11 @@
 //! The first tests of commands: the clock, and the table of a name.
 ghost use Rattle.std.specs.Prelude.{◌≡◌, None, Some, true, false, option_map, IfOk, IfErr, OnOk, ◌+◌, ◌≤◌, ◌^◌, length};
-ghost use Rattle.std.specs.List.{find};
-ghost use Rattle.std.specs.Option.{option_copied};
 ghost use Rattle.mvcc_keys.specs.Times.{IsTime, next, time_lt};
 ghost use Rattle.table_descriptors.specs.Descriptors.{IsProperSchema};
 ghost use Rattle.reply_texts.specs.declared.refusals.Refusal.TheVariants.{ClockFull};
 ghost use Rattle.reply_texts.specs.declared.refusals.Refusal.TheVariants.{Future};
 ghost use Rattle.history_model.specs.Histories.{has_name};
-ghost use Rattle.schema_catalog.specs.Catalogs.{is_missing, is_offline, is_offline_at, missing_fault, offline_fault};
+ghost use Rattle.schema_catalog.specs.Catalogs.{missing_fault, offline_fault};
 ghost use Rattle.introduced_spans.specs.Spans.{descriptors_of};
 ghost use Rattle.machine_model.specs.Machine.{offline_refusal, refusal_if};
 ghost use Rattle.machine_model.specs.Refusals.{catalog_refusal};
@@ -18,7 +16,7 @@ ghost use Rattle.cluster_core.specs.Standing.{RefusedBy};
 use crate::halts::Halt;
 use mvcc_keys::{Hlc, Memory};
 use reply_texts::Refusal;
-use schema_catalog::Catalog;
+use schema_catalog::{Catalog, CatalogFault};
 use std::alloc::Global;
 use table_descriptors::{Descriptor, Name, State};
 
@@ -37,7 +35,7 @@ pub fn is_time(t: Hlc)
 }
 
 /// The time that a command draws: the clock's next.
-pub fn drawn(clock: Hlc) -> Result<Hlc, Halt>
+pub fn draw_time(clock: Hlc) -> Result<Hlc, Halt>
     ensures drawn { IfOk result (λ t. next clock ≡ Some t) }
     ensures time { IfOk result IsTime }
     ensures full { IfErr result (λ e. (e ≡ Halt.Refused ClockFull) × (next clock ≡ None)) }
@@ -124,77 +122,31 @@ pub fn check_database(alloc: Global, catalog: &Catalog, database: &Name) -> Resu
 
 // ---- lists of names
 
-fn is_missing(catalog: &Catalog, name: &(Name, Name), t: Hlc) -> bool
-    ensures { result ≡ is_missing catalog.now t name.now }
+/// Refuses a command by the fault of a catalog, if there is one.
+fn check_fault(fault: Option<CatalogFault>) -> Result<(), Halt>
+    ensures passed { OnOk result (catalog_refusal fault ≡ None) }
+    ensures refused { IfErr result (λ e. RefusedBy e (catalog_refusal fault)) }
 {
-    catalog.named(&name.0, &name.1, t).is_none()
-}
-
-fn first_missing<'a>(
-    catalog: &Catalog,
-    names: &'a [(Name, Name)],
-    t: Hlc,
-) -> Option<&'a (Name, Name)>
-    ensures { option_copied result ≡ find (is_missing catalog.now t) names.now }
-{
-    names.iter().find(|name| is_missing(catalog, *name, t))
+    match fault {
+        Some(fault) => Err(Halt::from(fault)),
+        None => Ok(()),
+    }
 }
 
 /// Refuses the first name that belongs to no table at t.
-pub fn check_names(
-    alloc: Global,
-    catalog: &Catalog,
-    names: &[(Name, Name)],
-    t: Hlc,
-) -> Result<(), Halt>
+pub fn check_names(catalog: &Catalog, names: &[(Name, Name)], t: Hlc) -> Result<(), Halt>
     ensures passed { OnOk result (catalog_refusal (missing_fault catalog.now t names.now) ≡ None) }
     ensures refused { IfErr result (λ e. RefusedBy e (catalog_refusal (missing_fault catalog.now t names.now))) }
 {
-    match first_missing(catalog, names, t) {
-        Some(name) => {
-            let table = copy_name(alloc, name)?;
-            Err(Halt::Refused(Refusal::NoSuchTable { table }))
-        }
-        None => Ok(()),
-    }
-}
-
-fn is_offline_at(catalog: &Catalog, name: &(Name, Name), t: Hlc) -> bool
-    ensures { result ≡ is_offline_at catalog.now t name.now }
-{
-    match lookup(catalog, name, t) {
-        Some((_, d)) => d.state() == State::Offline,
-        None => false,
-    }
-}
-
-fn first_offline<'a>(
-    catalog: &Catalog,
-    names: &'a [(Name, Name)],
-    t: Hlc,
-) -> Option<&'a (Name, Name)>
-    ensures { option_copied result ≡ find (is_offline_at catalog.now t) names.now }
-{
-    names.iter().find(|name| is_offline_at(catalog, *name, t))
+    check_fault(catalog.missing(names, t)?)
 }
 
 /// Refuses the first name whose table is Offline at t.
-pub fn check_states(
-    alloc: Global,
-    catalog: &Catalog,
-    names: &[(Name, Name)],
-    t: Hlc,
-) -> Result<(), Halt>
+pub fn check_states(catalog: &Catalog, names: &[(Name, Name)], t: Hlc) -> Result<(), Halt>
     ensures passed { OnOk result (catalog_refusal (offline_fault catalog.now t names.now) ≡ None) }
     ensures refused { IfErr result (λ e. RefusedBy e (catalog_refusal (offline_fault catalog.now t names.now))) }
 {
-    match first_offline(catalog, names, t) {
-        Some(name) => {
-            let table = copy_name(alloc, name)?;
-            Err(Halt::Refused(Refusal::NotPublic { table }))
-        }
-        None => Ok(()),
-    }
+    check_fault(catalog.offline(names, t)?)
 }
 
 fn has_name(name: &(Name, Name), d: &Descriptor) -> bool

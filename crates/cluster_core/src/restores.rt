@@ -21,12 +21,12 @@ ghost use Rattle.cluster_core.specs.ClusterView.{record_of};
 ghost use Rattle.cluster_core.specs.Standing.{HaltHasCause, IsOwnName, Keeps, MayStep, RefusedBy, Runs, StandsFor};
 ghost use Rattle.cluster_core.specs.Backing.{StandsStill};
 ghost use Rattle.cluster_core.specs.Chains.{AreTypedRows, IsOneLayer, IsStanding, entries_in, stored_rows};
-ghost use Rattle.cluster_core.specs.Restoring.{AreRowsOf, HasRoomFor, count_rows, entries_of, made_tables};
+ghost use Rattle.cluster_core.specs.Restoring.{AreRowsOfEach, HasRoomFor, count_rows, entries_of, made_tables};
 ghost use Rattle.cluster_core.specs.Restores.{AreTested, EndsBy, IsFullTwice, IsHard, IsPlanned, IsTested, refusal_of_chosen, restored_by, room_test, shown_tables, with_restore};
 
 use crate::chains::{Chain, are_rows, chosen_of, read_rows};
 use crate::cluster::Cluster;
-use crate::finding::{drawn, is_time};
+use crate::finding::{draw_time, is_time};
 use crate::halts::Halt;
 use crate::jobs::{Job, push_job};
 use crate::rows::check_room;
@@ -59,14 +59,14 @@ struct Prepared {
 }
 
 /// The time of the tables and rows, and the one after it, at which they are public.
-fn drawn_twice(clock: Hlc) -> Result<(Hlc, Hlc), Halt>
+fn draw_two_times(clock: Hlc) -> Result<(Hlc, Hlc), Halt>
     ensures made { IfOk result (λ x. next clock ≡ Some x.0) }
     ensures published { IfOk result (λ x. next x.0 ≡ Some x.1) }
     ensures time { IfOk result (λ x. IsTime x.0) }
     ensures full { IfErr result (IsFullTwice clock) }
 {
-    let made = drawn(clock)?;
-    let published = drawn(made)?;
+    let made = draw_time(clock)?;
+    let published = draw_time(made)?;
     Ok((made, published))
 }
 
@@ -159,7 +159,7 @@ fn new_id(ids: &IdMap, old: u32) -> u32
     }
 }
 
-fn restored_as(
+fn answer_table(
     alloc: Global,
     ids: &IdMap,
     database: &Name,
@@ -174,7 +174,7 @@ fn restored_as(
     })
 }
 
-fn all_restored_as(
+fn answer_tables(
     alloc: Global,
     ids: &IdMap,
     database: &Name,
@@ -184,7 +184,7 @@ fn all_restored_as(
 {
     let mut tables = Vec::new(alloc);
     for d in chosen {
-        tables.push(restored_as(alloc, ids, database, d)?)?;
+        tables.push(answer_table(alloc, ids, database, d)?)?;
     }
     Ok(tables)
 }
@@ -222,7 +222,7 @@ fn check_some(chosen: &[Descriptor]) -> Result<(), Halt>
 }
 
 /// Chosen tables under new ids, in a new database. Their ids ascend in each manifest.
-fn planned(
+fn plan_tables(
     alloc: Global,
     chosen: Vec<Descriptor>,
     catalog: &Catalog,
@@ -291,7 +291,7 @@ impl Cluster {
         ensures refused { IfErr result (λ e. RefusedBy e (refusal_of_chosen self.now.schemas new.now made (shown_tables database.now time m.now) [])) }
     {
         let chosen = chosen_of(self.alloc, m.copy(self.alloc)?, database, time)?;
-        planned(self.alloc, chosen, &self.catalog, new, made)
+        plan_tables(self.alloc, chosen, &self.catalog, new, made)
     }
 
     /// Counts rows, and refuses more facts than may be accepted.
@@ -321,7 +321,7 @@ impl Cluster {
         requires room { HasRoomFor self.old made plan.tables.items (entries_of rows.now) }
         requires jobs { length self.old.jobs < self.old.steps }
         ensures kept { (old : List Table) (chosen : List Schema) (items : List (List RowItem)) → Keeps self.old old
-            → plan.tables.items ≡ map (remapped_schema plan.ids (target.Database database.now) made) chosen → ids_of plan.tables.items ≡ range_with_len (next_id self.old.schemas) (length chosen) → AreRowsOf made chosen (entries_of rows.now) items
+            → plan.tables.items ≡ map (remapped_schema plan.ids (target.Database database.now) made) chosen → ids_of plan.tables.items ≡ range_with_len (next_id self.old.schemas) (length chosen) → AreRowsOfEach made chosen (entries_of rows.now) items
             → OnOk result (Keeps self.new (old ++ made_tables made published plan.tables.items items)) }
         ensures rest { OnOk result (self.new ≡ with_restore self.old database.now published (count_rows (entries_of rows.now)) self.new.schemas.tables self.new.store) }
         ensures steps { self.new.steps ≡ self.old.steps }
@@ -330,12 +330,13 @@ impl Cluster {
         let ids = plan.ids;
         match self.add_restored(database, made, published, &ids, plan.tables, rows) {
             Ok(()) => Ok(push_job(&mut self.jobs, Job::Restore)?),
+            // by cases and not by `?`, which would make the halt anew
             Err(halt) => Err(halt),
         }
     }
 
     /// What a restore adds. It only reads the disk.
-    fn prepared<D: Disk>(
+    fn read_restore<D: Disk>(
         &self,
         disk: &mut D,
         layer: &LayerName,
@@ -379,7 +380,7 @@ impl Cluster {
         requires room { HasRoomFor self.old made p.plan.tables.items (entries_of p.rows.items) }
         requires jobs { length self.old.jobs < self.old.steps }
         ensures kept { (old : List Table) (chosen : List Schema) (items : List (List RowItem)) → Keeps self.old old
-            → p.plan.tables.items ≡ map (remapped_schema p.plan.ids (target.Database new.now) made) chosen → ids_of p.plan.tables.items ≡ range_with_len (next_id self.old.schemas) (length chosen) → AreRowsOf made chosen (entries_of p.rows.items) items
+            → p.plan.tables.items ≡ map (remapped_schema p.plan.ids (target.Database new.now) made) chosen → ids_of p.plan.tables.items ≡ range_with_len (next_id self.old.schemas) (length chosen) → AreRowsOfEach made chosen (entries_of p.rows.items) items
             → OnOk result (Keeps self.new (old ++ made_tables made published p.plan.tables.items items)) }
         ensures rest { OnOk result (self.new ≡ with_restore self.old new.now published (count_rows (entries_of p.rows.items)) self.new.schemas.tables self.new.store) }
         ensures answer { IfOk result (λ a. a ≡ restored_by self.old new.now p.plan.ids chain.now.time made p.count chain.now.layers.items p.plan.chosen.items) }
@@ -388,11 +389,12 @@ impl Cluster {
     {
         let plan = p.plan;
         let rows = p.rows;
-        let tables = all_restored_as(self.alloc, &plan.ids, new, &plan.chosen)?;
+        let tables = answer_tables(self.alloc, &plan.ids, new, &plan.chosen)?;
         let job = self.jobs.len() as u32 + 1;
         let answer = restore_done(self.alloc, job, chain, made, p.count, tables)?;
         match self.keep_restored(new, made, published, plan, &rows) {
             Ok(()) => Ok(answer),
+            // by cases and not by `?`, which would make the halt anew
             Err(halt) => Err(halt),
         }
     }
@@ -423,8 +425,9 @@ impl Cluster {
     {
         let (made, published) = times;
         proper_catalog(&self.catalog);
-        match self.prepared(disk, &layer.0, &layer.1, chain.time, database, new, made) {
+        match self.read_restore(disk, &layer.0, &layer.1, chain.time, database, new, made) {
             Ok(p) => self.finish_restore(chain, new, made, published, p),
+            // by cases and not by `?`, which would make the halt anew
             Err(halt) => Err(halt),
         }
     }
@@ -447,7 +450,7 @@ impl Cluster {
         ensures steps { self.new.steps ≡ self.old.steps }
         ensures cause { HaltHasCause (D.view disk.old).faults (D.view disk.new).faults result }
     {
-        let times = drawn_twice(self.clock)?;
+        let times = draw_two_times(self.clock)?;
         let chain = self.chain_of(source, collection, at)?;
         match chain.layers.last() {
             Some(layer) => {

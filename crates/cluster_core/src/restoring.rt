@@ -13,7 +13,7 @@ ghost use Rattle.id_remap.specs.declared.targets.Target.TheVariants as target;
 ghost use Rattle.id_remap.specs.Remapping.{ids_of, remapped_schema};
 ghost use Rattle.cluster_core.specs.declared.halts.Halt.TheVariants.{Memory as no_memory};
 ghost use Rattle.cluster_core.specs.Standing.{Keeps};
-ghost use Rattle.cluster_core.specs.Restoring.{AreRowsOf, HasRoomFor, IsAdding, IsFirst, count_rows, entries_of, made_tables, with_added};
+ghost use Rattle.cluster_core.specs.Restoring.{AreRowsOfEach, HasRoomFor, IsAdding, IsFirst, count_rows, entries_of, made_tables, with_added};
 
 use crate::cluster::Cluster;
 use crate::halts::Halt;
@@ -116,10 +116,12 @@ impl Cluster {
         let mut rest = rows;
         for d in tables {
             let Some((entries, others)) = rest.split_first() else {
+                // there are as many lists of rows as tables
                 unreachable!()
             };
             match self.add_table(ids, d, entries.as_slice(), made, published) {
                 Ok(()) => {}
+                // by cases and not by `?`, which would make the fault anew
                 Err(Memory) => return Err(Memory),
             }
             rest = others;
@@ -144,7 +146,7 @@ impl Cluster {
         requires published { next made ≡ Some published }
         requires room { HasRoomFor self.old made tables.items (entries_of rows.now) }
         ensures kept { (old : List Table) (chosen : List Schema) (items : List (List RowItem)) → Keeps self.old old
-            → tables.items ≡ map (remapped_schema ids.now (target.Database database.now) made) chosen → ids_of tables.items ≡ range_with_len (next_id self.old.schemas) (length chosen) → AreRowsOf made chosen (entries_of rows.now) items
+            → tables.items ≡ map (remapped_schema ids.now (target.Database database.now) made) chosen → ids_of tables.items ≡ range_with_len (next_id self.old.schemas) (length chosen) → AreRowsOfEach made chosen (entries_of rows.now) items
             → OnOk result (Keeps self.new (old ++ made_tables made published tables.items items)) }
         ensures rest { OnOk result (self.new ≡ with_added (record self.old { clock = published; schemas = with_database self.old.schemas database.now }) (count_rows (entries_of rows.now)) self.new.schemas.tables self.new.store) }
         ensures steps { self.new.steps ≡ self.old.steps }

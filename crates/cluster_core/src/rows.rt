@@ -9,7 +9,7 @@ ghost use Rattle.cluster_core.specs.Halting.{halt_of_select};
 ghost use Rattle.cluster_core.specs.Standing.{Does, LeavesRest, RefusedBy};
 
 use crate::cluster::Cluster;
-use crate::finding::{check_past, check_public, drawn, find_table};
+use crate::finding::{check_past, check_public, draw_time, find_table};
 use crate::halts::Halt;
 use mvcc_keys::{Hlc, Items};
 use reply_texts::{Answer, Refusal};
@@ -46,7 +46,7 @@ impl Cluster {
         ensures step { Does self.old self.new (λ m. upsert m name.now rows.now) result }
         ensures rest { LeavesRest self.old self.new }
     {
-        let at = drawn(self.clock)?;
+        let at = draw_time(self.clock)?;
         let (_, d) = find_table(self.alloc, &self.catalog, name, at)?;
         check_public(self.alloc, name, d)?;
         self.rows.check_rows(d, rows)?;
@@ -65,7 +65,7 @@ impl Cluster {
         ensures step { Does self.old self.new (λ m. delete m name.now keys.now) result }
         ensures rest { LeavesRest self.old self.new }
     {
-        let at = drawn(self.clock)?;
+        let at = draw_time(self.clock)?;
         let (_, d) = find_table(self.alloc, &self.catalog, name, at)?;
         check_public(self.alloc, name, d)?;
         self.rows.check_keys(d, keys)?;
@@ -89,7 +89,7 @@ impl Cluster {
         ensures step { Does self.old self.new (λ m. delete_range m name.now lo.now hi.now) result }
         ensures rest { LeavesRest self.old self.new }
     {
-        let at = drawn(self.clock)?;
+        let at = draw_time(self.clock)?;
         let (_, d) = find_table(self.alloc, &self.catalog, name, at)?;
         check_public(self.alloc, name, d)?;
         self.rows.check_range(d, lo, hi)?;

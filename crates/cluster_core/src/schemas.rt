@@ -5,7 +5,7 @@ ghost use Rattle.machine_model.specs.Tables.{create_database, create_table, alte
 ghost use Rattle.cluster_core.specs.Standing.{Does, LeavesRest};
 
 use crate::cluster::Cluster;
-use crate::finding::{check_public, drawn, find_table};
+use crate::finding::{check_public, draw_time, find_table};
 use crate::halts::Halt;
 use reply_texts::Answer;
 use row_codec::Kind;
@@ -34,7 +34,7 @@ impl Cluster {
         ensures step { Does self.old self.new (λ m. create_table m name.now columns.now key.now references.now) result }
         ensures rest { LeavesRest self.old self.new }
     {
-        let at = drawn(self.clock)?;
+        let at = draw_time(self.clock)?;
         let made = self
             .catalog
             .create_table(&name.0, &name.1, columns, key, references, at);
@@ -50,7 +50,7 @@ impl Cluster {
         ensures step { Does self.old self.new (λ m. alter m name.now change.now) result }
         ensures rest { LeavesRest self.old self.new }
     {
-        let at = drawn(self.clock)?;
+        let at = draw_time(self.clock)?;
         let (table, d) = find_table(self.alloc, &self.catalog, name, at)?;
         check_public(self.alloc, name, d)?;
         let version = self.catalog.change(table, change, at)?;
@@ -112,7 +112,7 @@ impl Cluster {
         ensures step { Does self.old self.new (λ m. drop_table m name.now) result }
         ensures rest { LeavesRest self.old self.new }
     {
-        let at = drawn(self.clock)?;
+        let at = draw_time(self.clock)?;
         let (table, d) = find_table(self.alloc, &self.catalog, name, at)?;
         let version = d.version() + 1;
         self.catalog.drop_tables(&[table], at)?;

@@ -1,3 +1,4 @@
 pub mod DiskLaws
 pub mod ReadyLaws
 pub mod Settings
+pub mod LinesOf

@@ -2,8 +2,8 @@
 use Rattle.std.proofs.Common.{◌≡◌, inl, ⊎_elim, ℕ, List, [], ◌∷◌, Option, Some, None, refl, sym, ap, subst, ◌∙◌}
 use Rattle.std.specs.Prelude.{slice_get}
 use Rattle.std.proofs.lemmas.Option.{get_or_from_slice_get, slice_get_within}
-use Rattle.fact_model.specs.Facts.{Has as IsIn}
-use Rattle.fact_model.proofs.Members.{Contains-has}
+use Rattle.list_laws.specs.Members.{Has as IsIn}
+use Rattle.list_laws.proofs.Members.{Contains-has}
 use Rattle.history_model.specs.Histories.{Table}
 use Rattle.history_model.specs.Layers as recorded
 use Rattle.outside_world.specs.Disk.{View}
@@ -16,6 +16,7 @@ use Rattle.layer_model.proofs.StandsLaws.{empty_stands}
 use Rattle.collection_dir.specs.Safety.{IsSafeInEither}
 use Rattle.layer_objects.specs.Objects.{name_of, objects_of}
 use Rattle.layer_objects.specs.Storable.{older_manifest}
+use Rattle.layer_objects.proofs.Names.{objects-name}
 use Rattle.machine_model.specs.Machine.{Backup, Machine}
 use Rattle.machine_model.specs.Disks.{CompleteIsDone, EmptyIsReady, IsGone, OpenLayersAreKept, StandsUntil, setting_of}
 use Rattle.machine_model.proofs.Settings.{made}
@@ -45,10 +46,6 @@ empty-ready v end known settled nothing = record { known = known; settled = sett
 got-in : {X : Type 0} (xs : List X) (i : ℕ) (x : X) → slice_get xs i ≡ Some x → IsIn x xs
 got-in xs i x got = Contains-has x xs (i, slice_get_within xs i x got, get_or_from_slice_get xs i x x got)
 
-objects_of-name : (tables : List Table) (r : recorded.Layer) → (objects_of tables r).name ≡ name_of r
-unfolding objects_of
-objects_of-name tables r = refl
-
 -- of an open layer something is there
 open_not-gone : (w : Layer) (n : LayerName) (objects : Objects) → w.name ≡ n → at objects (object_name n Gate) ≡ Some (1 ∷ []) → IsGone w objects → ⊥
 open_not-gone w n objects named is_open gone = let e : None ≡ Some (1 ∷ []) = sym (gone Gate tt) ∙ (ap (λ (k : LayerName). at objects (object_name k Gate)) named ∙ is_open) in cc e
@@ -64,7 +61,7 @@ open-kept v m ready n proper own is_open =
           (λ (kept : IsIn origin.backup m.layers). kept)
           (λ (gone : IsGone (objects_of m.history.tables origin.backup) v.objects). absurd (open_not-gone (objects_of m.history.tables origin.backup) n v.objects named is_open gone))
           (ready.kept.gone origin.backup (got-in m.jobs origin.place (Backup origin.backup) origin.got)),
-      sym (objects_of-name m.history.tables origin.backup) ∙ named,
+      sym (objects-name m.history.tables origin.backup) ∙ named,
     )
 
 -- ---- all layers
@@ -75,5 +72,5 @@ complete-done v m ready none_forgotten w is_made =
     let kept = none_forgotten origin.backup (got-in m.jobs origin.place (Backup origin.backup) origin.got) in
     let is_open : IsOpen (objects_of m.history.tables origin.backup) v.objects = ⊎_elim (λ whole. whole Gate tt) (λ whole. whole Gate tt) (ready.kept.there origin.backup kept) in (
       subst (λ (x : Layer). IsOpen x v.objects) origin.is is_open,
-      (origin.backup, kept, sym (objects_of-name m.history.tables origin.backup) ∙ ap (λ (x : Layer). x.name) origin.is),
+      (origin.backup, kept, sym (objects-name m.history.tables origin.backup) ∙ ap (λ (x : Layer). x.name) origin.is),
     )

@@ -2,7 +2,7 @@
 use Rattle.std.specs.Prelude.{ℕ, ◌+◌, ◌-◌, Bool, false, not, ◌&&◌, List, [], ◌∷◌, ◌++◌, length, filter, slice_get, Option, Some, None, option_and_then}
 use Rattle.std.specs.List.{find, list_any}
 use Rattle.std.specs.Str.{bytes_eq}
-use Rattle.mvcc_keys.specs.Times.{Time, zero_time, time_le}
+use Rattle.mvcc_keys.specs.Times.{Time, zero_time, time_eq, time_le}
 use Rattle.table_descriptors.specs.declared.scopes.Scope.{Scope}
 use Rattle.table_descriptors.specs.declared.scopes.Scope.TheVariants.{Database, Tables}
 use Rattle.table_descriptors.specs.Descriptors.{Schema}
@@ -13,19 +13,18 @@ use Rattle.introduced_spans.specs.declared.plans.PlanFault.{PlanFault}
 use Rattle.introduced_spans.specs.declared.plans.PlanFault.TheVariants as plan
 use Rattle.introduced_spans.specs.Spans.{descriptors_of, plan_fault, table_ids}
 use Rattle.layer_manifest.specs.declared.manifest.Manifest.{Manifest}
-use Rattle.layer_manifest.specs.Manifests.{chunk_count}
-use Rattle.backup_job.specs.Contents.{entry_count}
+use Rattle.layer_manifest.specs.Manifests.{chunk_count, entry_count}
 use Rattle.layer_objects.specs.Objects.{by_id, name_of, table_threshold}
 use Rattle.layer_objects.specs.Storable.{manifest_of}
 use Rattle.layer_book.specs.Books.{same_name}
-use Rattle.layer_book.specs.Subdirectories.{last_full_of, layers_of, subdirectories_of, time_eq}
+use Rattle.layer_book.specs.Subdirectories.{last_full_of, layers_of, subdirectories_of}
 use Rattle.script_grammar.specs.declared.backups.Src.{Src}
 use Rattle.script_grammar.specs.declared.backups.Src.TheVariants.{Latest, Named}
 use Rattle.reply_texts.specs.declared.refusals.Refusal.{Refusal}
 use Rattle.reply_texts.specs.declared.refusals.Refusal.TheVariants.{NoSuchDatabase, NoSuchBackup, NoSuchLayer, EndNotAfter, StartCollected, Collected}
 use Rattle.reply_texts.specs.declared.answers.Answer.{Answer}
 use Rattle.reply_texts.specs.declared.answers.Answer.TheVariants.{Plain, BackupDone, BackupsShown}
-use Rattle.machine_model.specs.Machine.{Backup, Machine, Stepped, catalog_of, answered, refused, refusal_if, judged, drawing}
+use Rattle.machine_model.specs.Machine.{Backup, Machine, Stepped, catalog_of, answered, refused, refusal_if, judged, drawing, with_found}
 use Rattle.machine_model.specs.Refusals.{catalog_refusal}
 use Rattle.machine_model.specs.TableRows.{future_refusal}
 
@@ -127,10 +126,6 @@ is_subdirectory cluster full s = bytes_eq s.0 cluster && time_eq s.1 full
 abbrev pub source_among : Src → List (List ℕ × Time) → Option (List ℕ × Time)
 source_among Latest subdirectories = slice_get subdirectories (length subdirectories - 1)
 source_among (Named cluster full) subdirectories = find (is_subdirectory cluster full) subdirectories
-
-abbrev pub with_found : Machine → Refusal → {X : Type 0} → Option X → (X → Stepped) → Stepped
-with_found m refusal None change = refused m refusal
-with_found m refusal (Some x) change = change x
 
 -- what is done with the subdirectory that a source names
 abbrev pub with_source : Machine → Src → List ℕ → (List ℕ × Time → Stepped) → Stepped

@@ -4,7 +4,7 @@ use Rattle.std.specs.Prelude.{◌≡◌, ◌⊎◌, ℕ, ◌+◌, ◌^◌, Bool,
 use Rattle.std.specs.List.{Contains}
 use Rattle.std.specs.Str.{bytes_eq}
 use Rattle.mvcc_keys.specs.Times.{Time}
-use Rattle.fact_model.specs.Facts.{Has as IsIn}
+use Rattle.list_laws.specs.Members.{Has as IsIn}
 use Rattle.table_descriptors.specs.Names.{is_name}
 use Rattle.history_model.specs.Histories.{Table}
 use Rattle.history_model.specs.Layers as recorded

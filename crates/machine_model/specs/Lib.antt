@@ -8,3 +8,4 @@ pub mod Step
 pub mod Script
 pub mod Disks
 pub mod Past
+pub mod LineLaws

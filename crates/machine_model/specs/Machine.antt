@@ -90,13 +90,14 @@ drawing m change = with_time m (next m.clock) change
 
 -- ---- tables by name
 
-abbrev pub with_found : Machine → List ℕ × List ℕ → Option Found → (Found → Stepped) → Stepped
-with_found m name None change = refused m (NoSuchTable name)
-with_found m name (Some found) change = change found
+-- what is done with what was found; where it is nothing, the command is refused
+abbrev pub with_found : Machine → Refusal → {X : Type 0} → Option X → (X → Stepped) → Stepped
+with_found m refusal None change = refused m refusal
+with_found m refusal (Some x) change = change x
 
 -- what is done with the table to which the name belongs at t
 abbrev pub with_table : Machine → List ℕ × List ℕ → Time → (Found → Stepped) → Stepped
-with_table m name t change = with_found m name (named m.history.tables name t) change
+with_table m name t change = with_found m (NoSuchTable name) (named m.history.tables name t) change
 
 -- the table of the name is Offline
 abbrev pub offline_refusal : List ℕ × List ℕ → Schema → Option Refusal

@@ -1,7 +1,7 @@
 -- No command changes what was true up to the clock.
 use Rattle.std.specs.Prelude.{◌≡◌, ◌⊎◌, ◌<◌, true, List, ◌++◌, length, Option, Some, None}
 use Rattle.mvcc_keys.specs.Times.{time_le}
-use Rattle.fact_model.specs.Facts.{Has as IsIn}
+use Rattle.list_laws.specs.Members.{Has as IsIn}
 use Rattle.history_model.specs.Layers.{Layer}
 use Rattle.layer_objects.specs.Past.{KeepsPast}
 use Rattle.command_lang.specs.declared.command.Command.{Command}

@@ -1,7 +1,7 @@
 -- RESTORE DATABASE: its tests, and what it makes. Its rows are those of a past scan of the cluster's own tables.
 use Rattle.std.specs.Prelude.{ℕ, ◌-◌, Bool, false, ◌&&◌, nat_eq, List, [], ◌∷◌, ◌++◌, length, map, filter_map, sum_by, slice_get, Option, Some, None, option_and_then, unwrap_or, if◌then◌else◌}
 use Rattle.std.specs.Str.{bytes_eq}
-use Rattle.mvcc_keys.specs.Times.{Time, next, zero_time}
+use Rattle.mvcc_keys.specs.Times.{Time, next, zero_time, latest, or_zero}
 use Rattle.table_descriptors.specs.declared.changes.Change.TheVariants.{Become}
 use Rattle.table_descriptors.specs.declared.columns.State.TheVariants.{Public}
 use Rattle.table_descriptors.specs.Descriptors.{Schema, changed_schema}
@@ -16,7 +16,7 @@ use Rattle.layer_objects.specs.Objects.{by_id, table_facts}
 use Rattle.chain_resolver.specs.declared.layer.Layer as chain
 use Rattle.chain_resolver.specs.declared.faults.CoverFault.{CoverFault}
 use Rattle.chain_resolver.specs.declared.faults.CoverFault.TheVariants as cover
-use Rattle.chain_resolver.specs.Cover.{ends_of, latest, or_zero}
+use Rattle.chain_resolver.specs.Cover.{ends_of}
 use Rattle.chain_resolver.specs.Best.{Chain, Cover, Uncovered, cover}
 use Rattle.id_remap.specs.declared.targets.Target.{Target}
 use Rattle.id_remap.specs.declared.targets.Target.TheVariants as target
@@ -29,9 +29,9 @@ use Rattle.reply_texts.specs.declared.refusals.Refusal.TheVariants.{NotCovered, 
 use Rattle.reply_texts.specs.declared.answers.Answer.{Answer}
 use Rattle.reply_texts.specs.declared.answers.Answer.TheVariants.{RestoreDone}
 use Rattle.reply_texts.specs.declared.answers.RestoredTable.{RestoredTable}
-use Rattle.machine_model.specs.Machine.{Machine, Restore, Stepped, answered, catalog_of, drawing, judged, refusal_if, refused, with_time}
+use Rattle.machine_model.specs.Machine.{Machine, Restore, Stepped, answered, catalog_of, drawing, judged, refusal_if, refused, with_found, with_time}
 use Rattle.machine_model.specs.TableRows.{room_refusal}
-use Rattle.machine_model.specs.Backups.{layers_in, next_job, with_found, with_source}
+use Rattle.machine_model.specs.Backups.{layers_in, next_job, with_source}
 
 -- ---- the chain
 

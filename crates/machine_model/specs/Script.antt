@@ -9,6 +9,7 @@ use Rattle.command_lang.specs.Lines.{Reading, Skipped, Reads, Malformed, reading
 use Rattle.reply_texts.specs.declared.replies.Response.{Response}
 use Rattle.reply_texts.specs.declared.replies.Response.TheVariants.{Refused, Answered}
 use Rattle.reply_texts.specs.Texts.{reply_text}
+use Rattle.machine_model.specs.declared.limits.TheConstants.{EVENTS_MAX, SCRIPT_BYTES_MAX, TABLES_MAX}
 use Rattle.machine_model.specs.Machine.{World, Machine, Stepped, empty_machine}
 use Rattle.machine_model.specs.Step.{step}
 
@@ -67,9 +68,9 @@ malformed_at line column m = record { text = malformed_text line column; refused
 abbrev pub column_beyond : List ℕ → ℕ
 column_beyond bytes = min 65537 (length bytes + 1)
 
--- the program's cluster begins at clock 0.0000000000, with 1,000,000 events and 4,096 tables
+-- the program's cluster begins at clock 0.0000000000, and may have as many events and tables as a script's
 unfoldable pub first_machine : List ℕ → Machine
-first_machine name = empty_machine name zero_time (record { events = 1000000; tables = 4096 })
+first_machine name = empty_machine name zero_time (record { events = EVENTS_MAX; tables = TABLES_MAX })
 
 -- the first command names the cluster, and no other command is a first one
 abbrev pub first_step : List World → Command → Option Stepped
@@ -114,6 +115,6 @@ outcome worlds n m [] = no_more m
 outcome worlds n m (Beyond bytes ∷ ls) = malformed_at n (column_beyond bytes) m
 outcome worlds n m (Within line ∷ ls) = reading_before worlds n m (read_at m line) (outcome worlds (n + 1) (machine_after worlds m (read_at m line)) ls)
 
--- the outcome of a whole script, of at most 67,108,864 bytes
+-- the outcome of a whole script
 unfoldable pub script_outcome : List World → List ℕ → Outcome
-script_outcome worlds bytes = outcome worlds 1 None (lines 67108864 bytes)
+script_outcome worlds bytes = outcome worlds 1 None (lines SCRIPT_BYTES_MAX bytes)

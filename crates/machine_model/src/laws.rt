@@ -1,5 +1,6 @@
-//! What holds of every ready disk.
+//! What holds of every ready disk, and of every script.
 ghost use Rattle.machine_model.specs.Disks.{CompleteIsDone, EmptyIsReady, OpenLayersAreKept};
+ghost use Rattle.machine_model.specs.LineLaws.{ScriptsAreTheirLines};
 
 use outside_world::Disk;
 
@@ -19,4 +20,10 @@ pub fn open_layers_are_the_machines<D: Disk>()
 /// so a further run of the script leaves the disk as it is.
 pub fn complete_disks_are_done<D: Disk>()
     ensures { (disk : D) → CompleteIsDone (D.view disk) }
+{}
+
+/// A law: a script is its lines, each with a newline after it, which the last may lack, and no line
+/// has a newline in it.
+pub fn scripts_are_their_lines()
+    ensures { ScriptsAreTheirLines }
 {}

@@ -1,19 +1,19 @@
 use Rattle.std.proofs.Common.{sym, ap, ◌∙◌}
 use Rattle.command_lang.specs.declared.command.Command.TheVariants.{Cluster}
 use Rattle.outside_world.proofs.Runs.{only_none}
-use Rattle.backup_run.proofs.Stepping.{answers_known, answers_first, answers_none, first_leads, idle_cause, first_ready, known_leads, known_ready, still}
+use Rattle.backup_run.proofs.Stepping.{answers_known, answers_first, answers_none, first_leads, idle_cause, first_ready, still}
 use Rattle.backup_run.proofs.answering.execute.Goals as goal
 
 pub returns-in_err-copy-in-None-clause-leads : goal.returns-in_err-copy-in-None-clause-leads
 returns-in_err-copy-in-None-clause-leads g c = λ worlds m end may. still m end _ (g.met.D.Disk.only_now c.args.disk.now) may.ready
 
-pub returns-in_ok-stepped-in-Some-clause-step : goal.returns-in_ok-stepped-in-Some-clause-step
-returns-in_ok-stepped-in-Some-clause-step g c =
-    rw c.in-Some.is (answers_known c.in-Some.known c.stepped.new.cluster _ c.in_ok-stepped-in-Some.field-0 c.args.command.now c.in_ok-stepped-in-Some.ensures.step)
+pub returns-in_ok-step_cluster-in-Some-clause-step : goal.returns-in_ok-step_cluster-in-Some-clause-step
+returns-in_ok-step_cluster-in-Some-clause-step g c =
+    rw c.in-Some.is (answers_known c.in-Some.known c.step_cluster.new.cluster _ c.in_ok-step_cluster-in-Some.field-0 c.args.command.now c.in_ok-step_cluster-in-Some.ensures.step)
 
 pub returns-in_ok-reply-in-None-clause-step : goal.returns-in_ok-reply-in-None-clause-step
 returns-in_ok-reply-in-None-clause-step g c =
-    rw c.in-None.is (answers_first c.in_ok-made-in-None.made c.stepped-in-None.new.cluster _ c.in_ok-reply-in-None.reply c.args.command.now c.in_ok-copy-in-None.field-0
+    rw c.in-None.is (answers_first c.in_ok-made-in-None.made c.step_cluster-in-None.new.cluster _ c.in_ok-reply-in-None.reply c.args.command.now c.in_ok-copy-in-None.field-0
     (c.in-Cluster.is ∙ ap Cluster (sym c.in_ok-copy-in-None.ensures.same)) c.in_ok-made-in-None.ensures.stands c.in_ok-reply-in-None.ensures.step)
 
 pub returns-in_err-made-in-None-clause-leads : goal.returns-in_err-made-in-None-clause-leads
@@ -21,11 +21,11 @@ returns-in_err-made-in-None-clause-leads g c = λ worlds m end may. still m end 
 
 pub returns-in_err-reply-in-None-clause-leads : goal.returns-in_err-reply-in-None-clause-leads
 returns-in_err-reply-in-None-clause-leads g c =
-    rw c.in-None.is (first_leads c.in_ok-made-in-None.made _ _ c.args.command.now c.in_ok-copy-in-None.field-0 (c.in-Cluster.is ∙ ap Cluster (sym c.in_ok-copy-in-None.ensures.same)) c.in_ok-made-in-None.ensures.stands c.stepped-in-None.ensures.leads)
+    rw c.in-None.is (first_leads c.in_ok-made-in-None.made _ _ c.args.command.now c.in_ok-copy-in-None.field-0 (c.in-Cluster.is ∙ ap Cluster (sym c.in_ok-copy-in-None.ensures.same)) c.in_ok-made-in-None.ensures.stands c.step_cluster-in-None.ensures.leads)
 
 pub returns-in_ok-reply-in-None-clause-leads : goal.returns-in_ok-reply-in-None-clause-leads
 returns-in_ok-reply-in-None-clause-leads g c =
-    rw c.in-None.is (first_leads c.in_ok-made-in-None.made _ _ c.args.command.now c.in_ok-copy-in-None.field-0 (c.in-Cluster.is ∙ ap Cluster (sym c.in_ok-copy-in-None.ensures.same)) c.in_ok-made-in-None.ensures.stands c.stepped-in-None.ensures.leads)
+    rw c.in-None.is (first_leads c.in_ok-made-in-None.made _ _ c.args.command.now c.in_ok-copy-in-None.field-0 (c.in-Cluster.is ∙ ap Cluster (sym c.in_ok-copy-in-None.ensures.same)) c.in_ok-made-in-None.ensures.stands c.step_cluster-in-None.ensures.leads)
 
 pub returns-in_ok-reply-in-None-clause-ready : goal.returns-in_ok-reply-in-None-clause-ready
 returns-in_ok-reply-in-None-clause-ready g c =

@@ -19,7 +19,7 @@ pub pieces-preserved : goal.pieces-preserved
 pieces-preserved g c =
     let is = c.in-Ok.ensures.taken.0 ∙ ap (λ (p : List ℕ). before_told p (g.S.Source.left c.read.new.self)) (sym c.split_at.ensures.front) in (
       running_next _ _ _ _ _ _ _ _ _ c.args.session.now c.pieces.session c.feed.new.session c.split_at.result.0.now c.pieces.invariant.0 is c.in-Ok-feed.ensures.fed,
-      c.in-Ok.ensures.cause.kept ∙ c.pieces.invariant.1,
+      c.in-Ok.ensures.cause.counts ∙ c.pieces.invariant.1,
       c.in-Ok-feed.ensures.cause ∙ c.pieces.invariant.2,
       c.in-Ok-feed.ensures.disk_cause ∙ c.pieces.invariant.3,
       omega (arith, c.read.auto.room, c.pieces.invariant.4),

@@ -1,7 +1,7 @@
 use Rattle.std.proofs.Common.{◌≡◌, None, drop, option_map, take}
 use Rattle.std.specs.List.{AllByRecursion}
 use Rattle.std.specs.Option.{option_copied}
-use Rattle.chunk_file.specs.Entries.{key_of}
+use Rattle.mvcc_keys.specs.Entries.{key_of}
 use Rattle.cluster_core.specs.Chains.{HasBytes, are_rows}
 use Rattle.cluster_core.proofs.chains.are_rows.Given as goal
 

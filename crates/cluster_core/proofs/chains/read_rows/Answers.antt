@@ -1,5 +1,5 @@
 use Rattle.std.proofs.Common.{◌∙◌, sym, subst}
-use Rattle.fact_model.specs.Facts.{Has}
+use Rattle.list_laws.specs.Members.{Has}
 use Rattle.outside_world.proofs.Runs.{reads_then}
 use Rattle.table_rows.proofs.Lists.{has-at}
 use Rattle.cluster_core.specs.Chains.{IsStanding, stored_rows}

@@ -18,7 +18,7 @@ returns-then-is_amid_line-clause-whole g c = λ worlds m here.
 pub returns-clause-whole : goal.returns-clause-whole
 returns-clause-whole g c = λ worlds m here t.
     let none : length c.args.self.now.pending ≡ 0 = grind (arith, nat_tests) in
-    nothing_left worlds c.args.self.now _ m c.nothing_said.result.text.items none c.nothing_said.ensures.text here
+    nothing_left worlds c.args.self.now _ m c.say_nothing.result.text.items none c.say_nothing.ensures.text here
 
 pub returns-then-is_amid_line-clause-leads : goal.returns-then-is_amid_line-clause-leads
 returns-then-is_amid_line-clause-leads g c = λ worlds m here.

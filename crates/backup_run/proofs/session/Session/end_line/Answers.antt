@@ -14,10 +14,10 @@ returns-clause-goes_on g c = rw (← c.self.view_is) (λ worlds m ls here t.
     ((rw c.deref.ensures.value at c.in-Ok.ensures.at) worlds m _ (may_go worlds (view_of c.self.inside) _ m ls here)) refl c.either-self-inside.ensures t)
 
 pub returns-in-Err-clause-leads : goal.returns-in-Err-clause-leads
-returns-in-Err-clause-leads g c = rw (← c.self.view_is) (λ worlds m ls here. (rw c.deref.ensures.value at c.line_said.ensures.leads) worlds m _ (may_go worlds (view_of c.self.inside) _ m ls here))
+returns-in-Err-clause-leads g c = rw (← c.self.view_is) (λ worlds m ls here. (rw c.deref.ensures.value at c.say_line.ensures.leads) worlds m _ (may_go worlds (view_of c.self.inside) _ m ls here))
 
 pub returns-clause-leads : goal.returns-clause-leads
-returns-clause-leads g c = rw (← c.self.view_is) (λ worlds m ls here. (rw c.deref.ensures.value at c.line_said.ensures.leads) worlds m _ (may_go worlds (view_of c.self.inside) _ m ls here))
+returns-clause-leads g c = rw (← c.self.view_is) (λ worlds m ls here. (rw c.deref.ensures.value at c.say_line.ensures.leads) worlds m _ (may_go worlds (view_of c.self.inside) _ m ls here))
 
 pub returns-in-Err-clause-disk : goal.returns-in-Err-clause-disk
 returns-in-Err-clause-disk g c = rw (← c.self.view_is) (rw c.deref.ensures.value at c.in-Err.ensures.disk)

@@ -9,7 +9,7 @@ use Rattle.backup_run.proofs.session.Session.take_byte.Goals as goal
 
 pub returns-then-self-eq0-clause-malformed : goal.returns-then-self-eq0-clause-malformed
 returns-then-self-eq0-clause-malformed g c = rw (← c.self.view_is) (λ worlds m more here t.
-    rw (c.in_ok-malformed_said.ensures.text, c.as_slice.ensures.value) (last_beyond worlds (view_of c.self.inside) _ m c.args.byte more c.if-self-eq0.true c.self.invariant.line here))
+    rw (c.in_ok-say_malformed.ensures.text, c.as_slice.ensures.value) (last_beyond worlds (view_of c.self.inside) _ m c.args.byte more c.if-self-eq0.true c.self.invariant.line here))
 
 pub returns-then-byte-eq10-clause-malformed : goal.returns-then-byte-eq10-clause-malformed
 returns-then-byte-eq10-clause-malformed g c = rw (← c.self.view_is) (λ worlds m more here.
@@ -23,20 +23,20 @@ returns-then-byte-eq10-clause-goes_on g c = rw (← c.self.view_is) (λ worlds m
 pub returns-then-len-eq65536-clause-malformed : goal.returns-then-len-eq65536-clause-malformed
 returns-then-len-eq65536-clause-malformed g c =
     let full : length c.self.inside.pending.items ≡ 65536 = grind (arith, nat_tests) in
-    rw (← c.self.view_is) (λ worlds m more here t. rw c.in_ok-malformed_said-2.ensures.text (last_too_long worlds (view_of c.self.inside) _ m c.args.byte more c.if-self-eq0.false c.if-byte-eq10.false full here))
+    rw (← c.self.view_is) (λ worlds m more here t. rw c.in_ok-say_malformed-2.ensures.text (last_too_long worlds (view_of c.self.inside) _ m c.args.byte more c.if-self-eq0.false c.if-byte-eq10.false full here))
 
 pub returns-clause-goes_on : goal.returns-clause-goes_on
 returns-clause-goes_on g c = rw (← c.self.view_is) (λ worlds m more here t.
-    byte_goes_on worlds (view_of c.self.inside) _ m c.args.byte more c.push.new.self.items _ c.nothing_said.ensures.text c.if-self-eq0.false c.if-byte-eq10.false c.in_ok-push.ensures.items here)
+    byte_goes_on worlds (view_of c.self.inside) _ m c.args.byte more c.push.new.self.items _ c.say_nothing.ensures.text c.if-self-eq0.false c.if-byte-eq10.false c.in_ok-push.ensures.items here)
 
-pub returns-in_err-malformed_said-clause-leads : goal.returns-in_err-malformed_said-clause-leads
-returns-in_err-malformed_said-clause-leads g c = λ worlds m more here. still m (outcome_of_rest worlds (at_of c.args.self.now m) (c.args.byte ∷ more)).machine _ (g.met.D.Disk.only_now c.args.disk.now) here.ready
+pub returns-in_err-say_malformed-clause-leads : goal.returns-in_err-say_malformed-clause-leads
+returns-in_err-say_malformed-clause-leads g c = λ worlds m more here. still m (outcome_of_rest worlds (at_of c.args.self.now m) (c.args.byte ∷ more)).machine _ (g.met.D.Disk.only_now c.args.disk.now) here.ready
 
 pub returns-then-self-eq0-clause-leads : goal.returns-then-self-eq0-clause-leads
 returns-then-self-eq0-clause-leads g c = λ worlds m more here. still m (outcome_of_rest worlds (at_of c.args.self.now m) (c.args.byte ∷ more)).machine _ (g.met.D.Disk.only_now c.args.disk.now) here.ready
 
-pub returns-in_err-malformed_said-2-clause-leads : goal.returns-in_err-malformed_said-2-clause-leads
-returns-in_err-malformed_said-2-clause-leads g c = λ worlds m more here. still m (outcome_of_rest worlds (at_of c.args.self.now m) (c.args.byte ∷ more)).machine _ (g.met.D.Disk.only_now c.args.disk.now) here.ready
+pub returns-in_err-say_malformed-2-clause-leads : goal.returns-in_err-say_malformed-2-clause-leads
+returns-in_err-say_malformed-2-clause-leads g c = λ worlds m more here. still m (outcome_of_rest worlds (at_of c.args.self.now m) (c.args.byte ∷ more)).machine _ (g.met.D.Disk.only_now c.args.disk.now) here.ready
 
 pub returns-then-len-eq65536-clause-leads : goal.returns-then-len-eq65536-clause-leads
 returns-then-len-eq65536-clause-leads g c = λ worlds m more here. still m (outcome_of_rest worlds (at_of c.args.self.now m) (c.args.byte ∷ more)).machine _ (g.met.D.Disk.only_now c.args.disk.now) here.ready

@@ -1,9 +1,9 @@
-use Rattle.std.proofs.Common.{◌+◌, ◌-◌, ◌<◌, refl, sym, ap, subst, arith}
+use Rattle.std.proofs.Common.{◌+◌, ◌<◌, refl, sym, ap, arith}
 use Rattle.table_descriptors.specs.Descriptors.{changed_schema}
 use Rattle.machine_model.specs.Tables.{alter}
-use Rattle.cluster_core.specs.ClusterView.{AreWithin, view_of}
+use Rattle.cluster_core.specs.ClusterView.{view_of}
 use Rattle.cluster_core.proofs.Flow.{exit_by, exit_missing, exit_catalog}
-use Rattle.cluster_core.proofs.Versions.{found-force, changeable, version-within, within-described}
+use Rattle.cluster_core.proofs.Versions.{found-force, changeable, redescribed-keeps}
 use Rattle.cluster_core.proofs.SchemaCommands.{redefined, alter-missing, alter-offline, alter-refused, alter-made, next_version}
 use Rattle.cluster_core.proofs.cluster.Cluster.alter.Goals as goal
 
@@ -32,16 +32,9 @@ pub invariant_of-self-2 : goal.invariant_of-self-2
 invariant_of-self-2 c =
     let d = c.in_ok-table.d.now in
     let made = c.in_ok-version.ensures.made d (found-force c.self.inside.catalog c.args.name.now c.in_ok-at.at c.in_ok-table.table d c.in_ok-table.ensures.found) in
-    let bound = version-within (c.self.inside.changes + 2) c.self.inside.catalog c.args.name.now c.in_ok-at.at c.in_ok-table.table d c.self.invariant.versions c.in_ok-table.ensures.found in
-    let within = within-described (c.self.inside.changes + 2) (c.self.inside.changes + 1 + 2) c.self.inside.catalog (c.in_ok-table.table - 100) (changed_schema d c.args.change.now c.in_ok-at.at) c.self.invariant.versions (omega arith) (next_version d c.args.change.now c.in_ok-at.at (c.self.inside.changes + 2) (c.self.inside.changes + 1 + 2) bound (omega arith)) in
-    record {
-      room = c.self.invariant.room;
-      versions = subst (λ s. AreWithin (c.self.inside.changes + 1 + 2) s.tables) (sym made.2) within;
-      changes = (let less : c.self.inside.changes < c.self.inside.steps = rw (sym c.self.view_is) at c.requires in omega (arith, less));
-      steps = c.self.invariant.steps;
-      few = c.self.invariant.few;
-      jobs = c.self.invariant.jobs;
-    }
+    let less : c.self.inside.changes < c.self.inside.steps = rw (sym c.self.view_is) at c.requires in
+    redescribed-keeps c.self.inside c.args.name.now c.in_ok-at.at c.in_ok-table.table d (changed_schema d c.args.change.now c.in_ok-at.at) c.change.new.self c.self.invariant less c.in_ok-table.ensures.found
+    (λ bound. next_version d c.args.change.now c.in_ok-at.at (c.self.inside.changes + 2) (c.self.inside.changes + 1 + 2) bound (omega arith)) made.2
 
 pub returns-clause-step : goal.returns-clause-step
 returns-clause-step c =

@@ -1,11 +1,11 @@
-use Rattle.std.proofs.Common.{◌+◌, ◌-◌, ◌<◌, ◌∙◌, sym, ap, subst, arith}
+use Rattle.std.proofs.Common.{◌+◌, ◌<◌, ◌∙◌, sym, ap, arith}
 use Rattle.table_descriptors.specs.declared.changes.Change.TheVariants.{Become}
 use Rattle.table_descriptors.specs.declared.columns.State.TheVariants.{Dropped}
 use Rattle.schema_catalog.specs.Catalogs.{dropped}
 use Rattle.machine_model.specs.Tables.{drop_table}
-use Rattle.cluster_core.specs.ClusterView.{AreWithin, view_of}
+use Rattle.cluster_core.specs.ClusterView.{view_of}
 use Rattle.cluster_core.proofs.Flow.{exit_missing, exit_catalog}
-use Rattle.cluster_core.proofs.Versions.{found-force, one-changeable, one-dropped, version-within, within-described}
+use Rattle.cluster_core.proofs.Versions.{found-force, one-changeable, one-dropped, redescribed-keeps, version-within}
 use Rattle.cluster_core.proofs.SchemaCommands.{redefined, drop-missing, drop-refused, drop-made, next_version}
 use Rattle.cluster_core.proofs.cluster.Cluster.drop_table.Goals as goal
 
@@ -34,16 +34,9 @@ pub invariant_of-self-2 : goal.invariant_of-self-2
 invariant_of-self-2 c =
     let d = c.in_ok-table.d.now in
     let made = c.in_ok-drop_tables.ensures.made.1 ∙ one-dropped c.self.inside.catalog c.in_ok-at.at c.in_ok-table.table d (found-force c.self.inside.catalog c.args.name.now c.in_ok-at.at c.in_ok-table.table d c.in_ok-table.ensures.found) in
-    let bound = version-within (c.self.inside.changes + 2) c.self.inside.catalog c.args.name.now c.in_ok-at.at c.in_ok-table.table d c.self.invariant.versions c.in_ok-table.ensures.found in
-    let within = within-described (c.self.inside.changes + 2) (c.self.inside.changes + 1 + 2) c.self.inside.catalog (c.in_ok-table.table - 100) (dropped d c.in_ok-at.at) c.self.invariant.versions (omega arith) (next_version d (Become Dropped) c.in_ok-at.at (c.self.inside.changes + 2) (c.self.inside.changes + 1 + 2) bound (omega arith)) in
-    record {
-      room = c.self.invariant.room;
-      versions = subst (λ s. AreWithin (c.self.inside.changes + 1 + 2) s.tables) (sym made) within;
-      changes = (let less : c.self.inside.changes < c.self.inside.steps = rw (sym c.self.view_is) at c.requires in omega (arith, less));
-      steps = c.self.invariant.steps;
-      few = c.self.invariant.few;
-      jobs = c.self.invariant.jobs;
-    }
+    let less : c.self.inside.changes < c.self.inside.steps = rw (sym c.self.view_is) at c.requires in
+    redescribed-keeps c.self.inside c.args.name.now c.in_ok-at.at c.in_ok-table.table d (dropped d c.in_ok-at.at) c.drop_tables.new.self c.self.invariant less c.in_ok-table.ensures.found
+    (λ bound. next_version d (Become Dropped) c.in_ok-at.at (c.self.inside.changes + 2) (c.self.inside.changes + 1 + 2) bound (omega arith)) made
 
 pub returns-clause-step : goal.returns-clause-step
 returns-clause-step c =

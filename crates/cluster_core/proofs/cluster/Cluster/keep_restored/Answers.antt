@@ -1,5 +1,5 @@
 use Rattle.std.proofs.Common.{◌++◌, refl, sym, subst}
-use Rattle.fact_model.proofs.TimeLaws.{le-refl}
+use Rattle.mvcc_keys.proofs.TimeOrder.{le-refl}
 use Rattle.cluster_core.specs.ClusterView.{ClusterState, view_of}
 use Rattle.cluster_core.specs.Standing.{Keeps}
 use Rattle.cluster_core.specs.Restoring.{made_tables}

@@ -10,13 +10,13 @@ use Rattle.cluster_core.specs.Restores.{IsPlanned, refusal_of_chosen, shown_tabl
 use Rattle.cluster_core.proofs.Ascending.{shown-ascend}
 use Rattle.cluster_core.proofs.cluster.Cluster.plan_restore.Goals as goal
 
-pub planned-requires : goal.planned-requires
-planned-requires c = ap (λ (xs : List Schema). are_ascending (ids_of xs)) (c.in_ok-chosen.ensures ∙ ap (shown_tables c.args.database.now c.args.time) c.in_ok-copy.ensures) ∙ shown-ascend c.args.database.now c.args.time c.args.m.now c.requires
+pub plan_tables-requires : goal.plan_tables-requires
+plan_tables-requires c = ap (λ (xs : List Schema). are_ascending (ids_of xs)) (c.in_ok-chosen.ensures ∙ ap (shown_tables c.args.database.now c.args.time) c.in_ok-copy.ensures) ∙ shown-ascend c.args.database.now c.args.time c.args.m.now c.requires
 
 pub returns-clause-planned : goal.returns-clause-planned
-returns-clause-planned c = subst₂ (λ (s : Schemas) (xs : List Schema). IfOk c.planned.result (IsPlanned s c.args.new.now c.args.made xs))
-    (ap (λ (x : ClusterState). x.schemas) c.self.view_is) (c.in_ok-chosen.ensures ∙ ap (shown_tables c.args.database.now c.args.time) c.in_ok-copy.ensures) c.planned.ensures.planned
+returns-clause-planned c = subst₂ (λ (s : Schemas) (xs : List Schema). IfOk c.plan_tables.result (IsPlanned s c.args.new.now c.args.made xs))
+    (ap (λ (x : ClusterState). x.schemas) c.self.view_is) (c.in_ok-chosen.ensures ∙ ap (shown_tables c.args.database.now c.args.time) c.in_ok-copy.ensures) c.plan_tables.ensures.planned
 
 pub returns-clause-refused : goal.returns-clause-refused
-returns-clause-refused c = subst₂ (λ (s : Schemas) (xs : List Schema). IfErr c.planned.result (λ e. RefusedBy e (refusal_of_chosen s c.args.new.now c.args.made xs [])))
-    (ap (λ (x : ClusterState). x.schemas) c.self.view_is) (c.in_ok-chosen.ensures ∙ ap (shown_tables c.args.database.now c.args.time) c.in_ok-copy.ensures) c.planned.ensures.refused
+returns-clause-refused c = subst₂ (λ (s : Schemas) (xs : List Schema). IfErr c.plan_tables.result (λ e. RefusedBy e (refusal_of_chosen s c.args.new.now c.args.made xs [])))
+    (ap (λ (x : ClusterState). x.schemas) c.self.view_is) (c.in_ok-chosen.ensures ∙ ap (shown_tables c.args.database.now c.args.time) c.in_ok-copy.ensures) c.plan_tables.ensures.refused

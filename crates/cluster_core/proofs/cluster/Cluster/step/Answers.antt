@@ -1,4 +1,4 @@
-use Rattle.std.proofs.Common.{◌+◌, Some, sym, subst}
+use Rattle.std.proofs.Common.{◌≡◌, ◌∙◌, ◌+◌, false, Some, ap, sym, subst}
 use Rattle.machine_model.specs.Step.{step}
 use Rattle.machine_model.proofs.DiskLaws.{ready_leaves}
 use Rattle.cluster_core.specs.ClusterView.{ClusterState, view_of}
@@ -12,7 +12,10 @@ pub returns-then-self-clause-step : goal.returns-then-self-clause-step
 returns-then-self-clause-step g c = λ worlds m end may. record { replied = tt; ready = tt; leaves = ready_leaves (Some m) (Some end) (g.D.Disk.view c.args.disk.now) (g.met.D.Disk.only_now c.args.disk.now) may.ready; idle = λ done. idle-none _ }
 
 pub reply-done-requires-clause-stands : goal.reply-done-requires-clause-stands
-reply-done-requires-clause-stands g c = (c.requires.stands.0, recounted (view_of c.self.inside) (c.self.inside.steps + 1) c.self.inside.ended c.requires.stands.0 (subst (λ (x : ClusterState). StandsFor x c.requires.stands.0) (sym c.self.view_is) c.requires.stands.1))
+reply-done-requires-clause-stands g c =
+    let going : c.args.self.now.ended ≡ false = ap (λ (x : ClusterState). x.ended) (sym c.self.view_is) ∙ c.if-self.false in
+    let here = c.requires.stands going in
+    (here.0, recounted (view_of c.self.inside) (c.self.inside.steps + 1) c.self.inside.ended here.0 (subst (λ (x : ClusterState). StandsFor x here.0) (sym c.self.view_is) here.1))
 
 pub returns-clause-step : goal.returns-clause-step
 returns-clause-step g c = λ worlds m end may.

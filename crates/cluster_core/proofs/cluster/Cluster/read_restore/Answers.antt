@@ -7,7 +7,7 @@ use Rattle.cluster_core.specs.Standing.{RefusedBy}
 use Rattle.cluster_core.specs.Restoring.{count_rows, entries_of}
 use Rattle.cluster_core.specs.Restores.{room_test}
 use Rattle.cluster_core.proofs.Restorings.{count-is, ended, ends-late}
-use Rattle.cluster_core.proofs.cluster.Cluster.prepared.Goals as goal
+use Rattle.cluster_core.proofs.cluster.Cluster.read_restore.Goals as goal
 
 pub returns-in_err-count-clause-rows : goal.returns-in_err-count-clause-rows
 returns-in_err-count-clause-rows g c tables r tells stands is =

@@ -1,5 +1,5 @@
 use Rattle.backup_run.proofs.Stepping.{own_changes, step_leads}
-use Rattle.backup_run.proofs.answering.stepped.Goals as goal
+use Rattle.backup_run.proofs.answering.step_cluster.Goals as goal
 
 pub returns-in-Ok-clause-step : goal.returns-in-Ok-clause-step
 returns-in-Ok-clause-step g c = λ worlds m end may. (c.in-Ok.ensures.step worlds m end may).replied

@@ -5,22 +5,22 @@ use Rattle.command_lang.specs.Lines.{Reads, reading}
 use Rattle.machine_model.specs.Script.{read_at}
 use Rattle.backup_run.proofs.Saying.{same-none}
 use Rattle.backup_run.proofs.Stepping.{still}
-use Rattle.backup_run.proofs.answering.line_said.Goals as goal
+use Rattle.backup_run.proofs.answering.say_line.Goals as goal
 
 pub returns-in-Ok-Some-clause-said : goal.returns-in-Ok-Some-clause-said
 returns-in-Ok-Some-clause-said g c = λ worlds m end may.
     let read = rw c.in-Ok-Some.field-0-is at c.in-Ok-Some.ensures in
     let is : read_at m c.args.line.now ≡ Reads c.in-Ok-Some.command = ap (λ (first : Bool). reading first c.args.line.now) (same-none c.args.cluster.now m may.stands ∙ sym c.is_first-first.ensures) ∙ read in
-    rw is (c.command_said.ensures.said worlds m end (rw is at may))
+    rw is (c.say_command.ensures.said worlds m end (rw is at may))
 
 pub returns-in-Ok-Some-clause-at : goal.returns-in-Ok-Some-clause-at
 returns-in-Ok-Some-clause-at g c = λ worlds m end may.
     let read = rw c.in-Ok-Some.field-0-is at c.in-Ok-Some.ensures in
     let is : read_at m c.args.line.now ≡ Reads c.in-Ok-Some.command = ap (λ (first : Bool). reading first c.args.line.now) (same-none c.args.cluster.now m may.stands ∙ sym c.is_first-first.ensures) ∙ read in
-    rw is (c.command_said.ensures.at worlds m end (rw is at may))
+    rw is (c.say_command.ensures.at worlds m end (rw is at may))
 
-pub returns-in_err-malformed_said-in-Err-Wrong-clause-leads : goal.returns-in_err-malformed_said-in-Err-Wrong-clause-leads
-returns-in_err-malformed_said-in-Err-Wrong-clause-leads g c = λ worlds m end may. still m end _ (g.met.D.Disk.only_now c.args.disk.now) may.ready
+pub returns-in_err-say_malformed-in-Err-Wrong-clause-leads : goal.returns-in_err-say_malformed-in-Err-Wrong-clause-leads
+returns-in_err-say_malformed-in-Err-Wrong-clause-leads g c = λ worlds m end may. still m end _ (g.met.D.Disk.only_now c.args.disk.now) may.ready
 
 pub returns-in-Err-Memory-clause-leads : goal.returns-in-Err-Memory-clause-leads
 returns-in-Err-Memory-clause-leads g c = λ worlds m end may. still m end _ (g.met.D.Disk.only_now c.args.disk.now) may.ready
@@ -29,18 +29,18 @@ pub returns-in-Ok-Some-clause-leads : goal.returns-in-Ok-Some-clause-leads
 returns-in-Ok-Some-clause-leads g c = λ worlds m end may.
     let read = rw c.in-Ok-Some.field-0-is at c.in-Ok-Some.ensures in
     let is : read_at m c.args.line.now ≡ Reads c.in-Ok-Some.command = ap (λ (first : Bool). reading first c.args.line.now) (same-none c.args.cluster.now m may.stands ∙ sym c.is_first-first.ensures) ∙ read in
-    c.command_said.ensures.leads worlds m end (rw is at may)
+    c.say_command.ensures.leads worlds m end (rw is at may)
 
 pub returns-in-Ok-None-clause-leads : goal.returns-in-Ok-None-clause-leads
 returns-in-Ok-None-clause-leads g c = λ worlds m end may. still m end _ (g.met.D.Disk.only_now c.args.disk.now) may.ready
 
-pub returns-in_ok-malformed_said-in-Err-Wrong-clause-leads : goal.returns-in_ok-malformed_said-in-Err-Wrong-clause-leads
-returns-in_ok-malformed_said-in-Err-Wrong-clause-leads g c = λ worlds m end may. still m end _ (g.met.D.Disk.only_now c.args.disk.now) may.ready
+pub returns-in_ok-say_malformed-in-Err-Wrong-clause-leads : goal.returns-in_ok-say_malformed-in-Err-Wrong-clause-leads
+returns-in_ok-say_malformed-in-Err-Wrong-clause-leads g c = λ worlds m end may. still m end _ (g.met.D.Disk.only_now c.args.disk.now) may.ready
 
 pub returns-in-Ok-Some-clause-disk : goal.returns-in-Ok-Some-clause-disk
 returns-in-Ok-Some-clause-disk g c =
     let read = rw c.in-Ok-Some.field-0-is at c.in-Ok-Some.ensures in
-    IfErr-weaker c.command_said.result _ _ (λ e f no.
+    IfErr-weaker c.say_command.result _ _ (λ e f no.
     let met = f no in
     record { command = c.in-Ok-Some.command; reads = ap (λ (first : Bool). reading first c.args.line.now) (sym met.0 ∙ sym c.is_first-first.ensures) ∙ read; of_disk = met.1 })
-    c.command_said.ensures.disk
+    c.say_command.ensures.disk
