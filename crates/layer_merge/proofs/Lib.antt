@@ -1,0 +1,13 @@
+pub mod StandLaws
+pub mod ChainLaws
+pub mod Images
+pub mod CoverLaws
+pub mod NextRows
+pub mod RowSteps
+pub mod RangeLaws
+pub mod FragmentLaws
+pub mod StartLaws
+pub mod MergeLaws
+pub mod NewMerges
+pub mod StepLaws
+pub mod RangeFaults

@@ -1,0 +1,14 @@
+pub mod Loads
+pub mod Stands
+pub mod StandOrder
+pub mod Steps
+pub mod FromLast
+pub mod Nexts
+pub mod Rows
+pub mod Ranges
+pub mod Decided
+pub mod Starts
+pub mod Walks
+pub mod Shares
+pub mod Laws
+pub mod Parts

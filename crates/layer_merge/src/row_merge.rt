@@ -1,0 +1,85 @@
+//! The rows of a table as of a time, out of the layers of a chain.
+ghost use Rattle.std.specs.Prelude.{◌≡◌, true, false, [], None, IfOk, IfErr, IfSome, OnOk, List};
+ghost use Rattle.mvcc_keys.specs.declared.entries.Entry.{Entry};
+ghost use Rattle.layer_merge.specs.Loads.{Gives, IsOthers, World};
+ghost use Rattle.layer_merge.specs.Steps.{IsMergeFault, IsOfHeld, IsStep, to_load};
+ghost use Rattle.layer_merge.specs.Rows.{Gave};
+ghost use Rattle.layer_merge.specs.Walks.{MergesOver, may_load, rows_of};
+ghost use Rattle.layer_merge.specs.Parts.{AreProper, counted_entries, merge_rows};
+
+use crate::parts::{Part, counted, waiting_of};
+use crate::walk::Walk;
+use crate::wanted::wanted_upto;
+use crate::{Chunks, Kind, Memory, MergeFault};
+use mvcc_keys::{Entry, Hlc};
+use std::alloc::Global;
+use std::marker::Model;
+
+/// The visible rows of a table as of a time, over the parts of a chain that count.
+#[derive(Drop)]
+pub struct RowMerge {
+    walk: Walk,
+    failed: bool,
+}
+
+impl Model for RowMerge {
+    ghost use Rattle.std.specs.Prelude.{◌≡◌, None};
+    ghost use Rattle.layer_merge.specs.Walks.{RowState, row_state};
+
+    ghost Value = { RowState };
+
+    ghost view = { λ m. row_state m.walk m.failed };
+
+    ghost invariant = { λ m. m.walk.wanted.after ≡ None };
+}
+
+impl RowMerge {
+    /// A merge of a table's parts in the order of their chain, of the rows as of a time.
+    pub fn new(
+        alloc: Global,
+        table: u32,
+        kinds: &[Kind],
+        parts: &[Part],
+        t: Hlc,
+    ) -> Result<RowMerge, Memory>
+        ensures table { IfOk result (λ m. m.walk.table ≡ table) }
+        ensures kinds { IfOk result (λ m. m.walk.kinds ≡ kinds.now) }
+        ensures failed { IfOk result (λ m. m.failed ≡ false) }
+        ensures held { IfOk result (λ m. m.walk.stands ≡ []) }
+        ensures rows { (w : World) → AreProper w parts.now → IfOk result (λ m. MergesOver w (counted_entries w parts.now) m.walk × (rows_of (counted_entries w parts.now) m.walk ≡ merge_rows w parts.now t)) }
+    {
+        let waiting = match waiting_of(alloc, counted(parts)) {
+            Ok(waiting) => waiting,
+            Err(refused) => return Err(refused),
+        };
+        match Walk::new(alloc, table, kinds, wanted_upto(alloc, t), waiting) {
+            Ok(walk) => Ok(RowMerge {
+                walk,
+                failed: false,
+            }),
+            Err(refused) => Err(refused),
+        }
+    }
+
+    /// The next visible put, by key; None exactly at the end.
+    pub fn next<C: Chunks>(&mut self, chunks: &mut C) -> Result<Option<Entry>, MergeFault<C::Fault>>
+        requires { self.old.failed ≡ false }
+        ensures step { IsStep C.kept C.came C.loads self.old.walk.table chunks.old chunks.new self.old.walk.stands self.new.walk.stands (λ x. may_load x self.old.walk) (λ x. to_load self.old.walk.table x self.new.walk.stands) }
+        ensures put { IfOk result (λ r. IfSome r (IsOfHeld (C.came chunks.old chunks.new) self.old.walk.table self.old.walk.stands)) }
+        ensures fault { IfErr result (IsMergeFault (C.came chunks.old chunks.new) self.old.walk.table self.old.walk.kinds self.old.walk.stands) }
+        ensures sound { (w : World) (all : List Entry) → Gives C.came self.old.walk.table self.old.walk.kinds w chunks.old → MergesOver w all self.old.walk → IfErr result IsOthers }
+        ensures begun { OnOk result (self.new.walk.begun ≡ true) }
+        ensures table { self.new.walk.table ≡ self.old.walk.table }
+        ensures kinds { self.new.walk.kinds ≡ self.old.walk.kinds }
+        ensures failed { OnOk result (self.new.failed ≡ false) }
+        ensures rows { (w : World) (all : List Entry) → Gives C.came self.old.walk.table self.old.walk.kinds w chunks.old → MergesOver w all self.old.walk → IfOk result (λ r. Gave r (rows_of all self.old.walk) (rows_of all self.new.walk) × MergesOver w all self.new.walk) }
+    {
+        match self.walk.next_row(chunks) {
+            Ok(row) => Ok(row),
+            Err(fault) => {
+                self.failed = true;
+                Err(fault)
+            }
+        }
+    }
+}

@@ -1,0 +1,162 @@
+//! The walk of a merge over the parts that count.
+ghost use Rattle.std.specs.Prelude.{◌≡◌, true, false, [], None, IfOk, IfErr, IfSome, OnOk, List};
+ghost use Rattle.mvcc_keys.specs.declared.entries.Entry.{Entry};
+ghost use Rattle.layer_merge.specs.Loads.{Gives, IsOthers, World};
+ghost use Rattle.layer_merge.specs.Steps.{IsMergeFault, IsOfHeld, IsStep, to_load};
+ghost use Rattle.layer_merge.specs.Rows.{Gave};
+ghost use Rattle.layer_merge.specs.Walks.{MergesOver, may_load, rows_of};
+
+use crate::cursor::Cursor;
+use crate::range_set::RangeSet;
+use crate::ranges::Waiting;
+use crate::rows::next_row;
+use crate::start::start;
+use crate::wanted::Wanted;
+use crate::{Chunks, Kind, Memory, MergeFault};
+use mvcc_keys::{Blob, Entry};
+use std::alloc::Global;
+use std::collections::{BinaryHeap, VecDeque};
+use std::marker::Model;
+
+/// What a merge is asked for, what it holds, and where it stands.
+#[derive(Drop)]
+pub(crate) struct Walk {
+    alloc: Global,
+    table: u32,
+    kinds: Vec<Kind>,
+    wanted: Wanted,
+    waiting: VecDeque<Waiting>,
+    cursors: BinaryHeap<Cursor>,
+    ranges: RangeSet,
+    done: Option<Blob>,
+    begun: bool,
+}
+
+impl Model for Walk {
+    ghost use Rattle.std.specs.BinaryHeap.{IsHeap, heap_items};
+    ghost use Rattle.layer_merge.specs.Stands.{stand_cmp};
+    ghost use Rattle.layer_merge.specs.Walks.{WalkState, walk_state};
+
+    ghost Value = { WalkState };
+
+    ghost view = { λ m. walk_state m.table m.kinds.items m.wanted m.waiting.items (heap_items m.cursors) m.ranges m.done m.begun };
+
+    ghost invariant = { λ m. IsHeap stand_cmp (heap_items m.cursors) };
+}
+
+impl Walk {
+    /// A walk over parts that wait.
+    pub(crate) fn new(
+        alloc: Global,
+        table: u32,
+        kinds: &[Kind],
+        wanted: Wanted,
+        waiting: VecDeque<Waiting>,
+    ) -> Result<Walk, Memory>
+        ensures table { IfOk result (λ m. m.table ≡ table) }
+        ensures kinds { IfOk result (λ m. m.kinds ≡ kinds.now) }
+        ensures wanted { IfOk result (λ m. m.wanted ≡ wanted) }
+        ensures waiting { IfOk result (λ m. m.waiting ≡ waiting.items) }
+        ensures stands { IfOk result (λ m. m.stands ≡ []) }
+        ensures ranges { IfOk result (λ m. m.ranges ≡ []) }
+        ensures last { IfOk result (λ m. m.done ≡ None) }
+        ensures begun { IfOk result (λ m. m.begun ≡ false) }
+    {
+        let mut copy = Vec::new(alloc);
+        if copy.extend_from_slice(kinds).is_err() {
+            return Err(Memory);
+        }
+        Ok(Walk {
+            alloc,
+            table,
+            kinds: copy,
+            wanted,
+            waiting,
+            cursors: BinaryHeap::new(alloc),
+            ranges: RangeSet::new(alloc),
+            done: None,
+            begun: false,
+        })
+    }
+
+    /// Loads what is needed before the first row, once.
+    fn begin<C: Chunks>(&mut self, chunks: &mut C) -> Result<(), MergeFault<C::Fault>>
+        ensures step { IsStep C.kept C.came C.loads self.old.table chunks.old chunks.new self.old.stands self.new.stands (λ x. may_load x self.old) (λ x. to_load self.old.table x self.new.stands) }
+        ensures fault { IfErr result (IsMergeFault (C.came chunks.old chunks.new) self.old.table self.old.kinds self.old.stands) }
+        ensures sound { (w : World) (all : List Entry) → Gives C.came self.old.table self.old.kinds w chunks.old → MergesOver w all self.old → IfErr result IsOthers }
+        ensures table { self.new.table ≡ self.old.table }
+        ensures kinds { self.new.kinds ≡ self.old.kinds }
+        ensures wanted { self.new.wanted ≡ self.old.wanted }
+        ensures last { self.new.done ≡ self.old.done }
+        ensures begun { OnOk result (self.new.begun ≡ true) }
+        ensures world { (w : World) (all : List Entry) → Gives C.came self.old.table self.old.kinds w chunks.old → MergesOver w all self.old → OnOk result (MergesOver w all self.new) }
+    {
+        if self.begun {
+            return Ok(());
+        }
+        match start(
+            self.alloc,
+            &mut self.waiting,
+            &mut self.cursors,
+            &mut self.ranges,
+            chunks,
+            self.table,
+            self.kinds.as_slice(),
+        ) {
+            Ok(()) => {
+                self.begun = true;
+                Ok(())
+            }
+            Err(fault) => Err(fault),
+        }
+    }
+
+    /// The next row, once the walk has begun.
+    fn row<C: Chunks>(&mut self, chunks: &mut C) -> Result<Option<Entry>, MergeFault<C::Fault>>
+        requires begun { self.old.begun ≡ true }
+        requires from_start { self.old.wanted.after ≡ None }
+        ensures step { IsStep C.kept C.came C.loads self.old.table chunks.old chunks.new self.old.stands self.new.stands (λ x. to_load self.old.table x self.old.stands) (λ x. to_load self.old.table x self.new.stands) }
+        ensures fault { IfErr result (IsMergeFault (C.came chunks.old chunks.new) self.old.table self.old.kinds self.old.stands) }
+        ensures put { IfOk result (λ r. IfSome r (IsOfHeld (C.came chunks.old chunks.new) self.old.table self.old.stands)) }
+        ensures sound { (w : World) (all : List Entry) → Gives C.came self.old.table self.old.kinds w chunks.old → MergesOver w all self.old → IfErr result IsOthers }
+        ensures begun { self.new.begun ≡ true }
+        ensures table { self.new.table ≡ self.old.table }
+        ensures kinds { self.new.kinds ≡ self.old.kinds }
+        ensures wanted { self.new.wanted ≡ self.old.wanted }
+        ensures world { (w : World) (all : List Entry) → Gives C.came self.old.table self.old.kinds w chunks.old → MergesOver w all self.old → IfOk result (λ r. Gave r (rows_of all self.old) (rows_of all self.new) × MergesOver w all self.new) }
+    {
+        next_row(
+            self.alloc,
+            &mut self.cursors,
+            chunks,
+            self.table,
+            self.kinds.as_slice(),
+            &self.wanted,
+            &self.ranges,
+            &mut self.done,
+        )
+    }
+
+    /// The next row; None exactly at the end.
+    pub(crate) fn next_row<C: Chunks>(
+        &mut self,
+        chunks: &mut C,
+    ) -> Result<Option<Entry>, MergeFault<C::Fault>>
+        requires { self.old.wanted.after ≡ None }
+        ensures step { IsStep C.kept C.came C.loads self.old.table chunks.old chunks.new self.old.stands self.new.stands (λ x. may_load x self.old) (λ x. to_load self.old.table x self.new.stands) }
+        ensures fault { IfErr result (IsMergeFault (C.came chunks.old chunks.new) self.old.table self.old.kinds self.old.stands) }
+        ensures put { IfOk result (λ r. IfSome r (IsOfHeld (C.came chunks.old chunks.new) self.old.table self.old.stands)) }
+        ensures sound { (w : World) (all : List Entry) → Gives C.came self.old.table self.old.kinds w chunks.old → MergesOver w all self.old → IfErr result IsOthers }
+        ensures begun { OnOk result (self.new.begun ≡ true) }
+        ensures table { self.new.table ≡ self.old.table }
+        ensures kinds { self.new.kinds ≡ self.old.kinds }
+        ensures wanted { self.new.wanted ≡ self.old.wanted }
+        ensures rows { (w : World) (all : List Entry) → Gives C.came self.old.table self.old.kinds w chunks.old → MergesOver w all self.old → IfOk result (λ r. Gave r (rows_of all self.old) (rows_of all self.new) × MergesOver w all self.new) }
+    {
+        match self.begin(chunks) {
+            Ok(()) => {}
+            Err(fault) => return Err(fault),
+        }
+        self.row(chunks)
+    }
+}
