@@ -1,0 +1,24 @@
+//! The laws of these crates. They are functions with nothing in them, called so that both compilers
+//! build them.
+use backup_job::{infos_are_proper, pieces_are_chunks, started_jobs_run};
+use introduced_spans::{full_plans_are_whole, plans_stand};
+use layer_book::{last_full_is_greatest, layers_are_exact, maps_carry, subdirectories_are_exact};
+use layer_objects::{layers_are_final, layers_may_be_written, manifests_tell};
+use layer_rows::{are_bytes, scans_are_stored};
+
+pub fn state_all() {
+    plans_stand();
+    full_plans_are_whole();
+    subdirectories_are_exact::<u8>();
+    layers_are_exact::<u8>();
+    last_full_is_greatest::<u8>();
+    maps_carry::<u8, u8>();
+    started_jobs_run();
+    pieces_are_chunks();
+    infos_are_proper();
+    scans_are_stored();
+    are_bytes(b"");
+    layers_are_final();
+    layers_may_be_written();
+    manifests_tell();
+}
