@@ -32,8 +32,3 @@ last_of (x ∷ xs) = Some (last_after x xs)
 -- the last date up to t
 unfoldable pub last_upto : Time → List Time → Option Time
 last_upto t ds = last_of (filter (λ d. time_le d t) ds)
-
--- dates put among others
-abbrev pub with_dates : List Time → List Time → List Time
-with_dates found [] = found
-with_dates found (d ∷ ds) = with_dates (with_date d found) ds

@@ -8,7 +8,7 @@ use Rattle.mvcc_keys.specs.Times.{Time, time_le, time_lt}
 use Rattle.mvcc_keys.specs.Codes.{time_cmp}
 use Rattle.list_laws.specs.Members.{Has}
 use Rattle.fact_model.specs.Facts.{date}
-use Rattle.fact_model.specs.Listed.{date_cmp, is_point, key_of, point_cmp, points, ranges}
+use Rattle.fact_model.specs.Listed.{date_cmp, is_point, point_cmp, points, ranges}
 use Rattle.fact_model.specs.Scans.{Item, image, put_of, scan}
 use Rattle.list_laws.proofs.Members as members
 use Rattle.fact_model.proofs.Listings as listings

@@ -1,4 +1,5 @@
 pub mod Bytes
+pub mod Choices
 pub mod Places
 pub mod FactOrder
 pub mod Firsts
@@ -7,6 +8,7 @@ pub mod Held
 pub mod Collects
 pub mod Replays
 pub mod RowChanges
+pub mod RowParts
 pub mod RowPuts
 pub mod RowScans
 pub mod MapHeld

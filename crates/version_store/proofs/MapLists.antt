@@ -1,5 +1,5 @@
 -- The events and range deletions that a map of versions lists.
-use Rattle.std.proofs.Common.{◌≡◌, ◌∙◌, ℕ, zero, suc, Bool, true, false, cond, not, ◌&&◌, sym, refl, ap, ap₂, subst, List, [], ◌∷◌, ◌++◌, map, filter, take, Option, Some, None, inl, inr, true≢false, Ordering, Less, Equal, is_eq, is_le, is_lt, arith, Result, Ok, Err, IfOk}
+use Rattle.std.proofs.Common.{◌≡◌, ◌∙◌, ℕ, zero, suc, Bool, true, false, cond, not, ◌&&◌, sym, refl, ap, ap₂, subst, List, [], ◌∷◌, ◌++◌, map, filter, take, Option, Some, None, inl, inr, true≢false, Ordering, Less, Equal, is_le, is_lt, arith, Result, Ok, Err, IfOk}
 use Rattle.std.specs.Global.{Vec}
 use Rattle.std.specs.List.Sorted.{IsStrictlySortedBy}
 use Rattle.std.specs.Ordering.{ordering_then}
@@ -19,7 +19,7 @@ use Rattle.range_tombstones.specs.declared.deletion.RangeDeletion.{RangeDeletion
 use Rattle.range_tombstones.specs.Ranges.{ranges_between}
 use Rattle.range_tombstones.specs.Ranges as deletions
 use Rattle.range_tombstones.proofs.Lists as lists
-use Rattle.fact_model.specs.Facts.{Fact, IsApart, date, touches}
+use Rattle.fact_model.specs.Facts.{Fact, date}
 use Rattle.fact_model.specs.Listed.{date_cmp, is_point, key_of, point_cmp, points, ranges}
 use Rattle.fact_model.specs.Ordered.{ordered}
 use Rattle.fact_model.specs.Scans.{kept}
@@ -41,7 +41,6 @@ use Rattle.version_store.proofs.RowPuts.{held-date, held-key}
 use Rattle.version_store.proofs.RowScans.{map-has, keys-above}
 use Rattle.version_store.proofs.MapHeld.{own-table}
 use Rattle.mvcc_keys.proofs.TimeOrder.{cmp-Equal}
-use Rattle.list_laws.proofs.Orderings.{then-Equal}
 use Rattle.list_laws.proofs.Orders.{sorted-append}
 
 -- ---- the orders of facts

@@ -19,9 +19,11 @@ use Rattle.fact_model.specs.Facts.{Fact}
 use Rattle.fact_model.specs.Listed.{key_of}
 use Rattle.fact_model.specs.Facts as facts
 use Rattle.list_laws.specs.Members as members
-use Rattle.version_store.specs.Tables.{Bytes, ByteFact, bytes_cmp, entries_of}
+use Rattle.version_store.specs.Tables.{Bytes, ByteFact, Tables, bytes_cmp, entries_of, events_at, newest_events_at}
 use Rattle.version_store.specs.Lists.{seen_item}
 use Rattle.version_store.specs.declared.row.Version.{Version}
+use Rattle.version_store.specs.declared.choice.Choice.{Choice}
+use Rattle.version_store.specs.declared.choice.Choice.TheVariants.{All, Newest}
 
 -- the fact that a version of a key is
 abbrev pub held : Bytes → Time → Option Bytes → ByteFact
@@ -89,6 +91,11 @@ row_shown (Some v) cover = cond (is_hidden v.at cover) None (shown_as v.at v.val
 abbrev pub shows : Option Bytes → Bool → Bool
 shows None hidden = false
 shows (Some value) hidden = not hidden
+
+-- the same of the first version up to a time, if there is one
+abbrev pub shows_first : Option Time → Option Version → Bool
+shows_first cover None = false
+shows_first cover (Some v) = shows v.value (is_hidden v.at cover)
 
 -- what a collection up to g leaves of a row: the newer versions, and what the row shows at g
 unfoldable pub trimmed : Time → Option Time → List Version → List Version
@@ -167,6 +174,28 @@ first_between from upto (v ∷ vs) = cond (is_between from upto v.at) (Some v) (
 -- of each row the newest version of an interval alone
 abbrev pub newest_rows : Time → Upto → List (Vec ℕ × List Version) → List (Vec ℕ × List Version)
 newest_rows from upto es = map (λ (e : Vec ℕ × List Version). (e.0, option_to_list (first_between from upto e.1))) es
+
+-- ---- choices
+
+-- the date after which a choice begins
+abbrev pub from_of : Choice → Time
+from_of (All from upto) = from
+from_of (Newest from upto) = from
+
+-- what a choice has of a row after a place
+abbrev pub row_chosen : Choice → Option (Bytes × Time) → Bytes → List Version → List Entry
+row_chosen (All from upto) place k vs = row_events (is_event from upto place) k vs
+row_chosen (Newest from upto) place k vs = row_events (is_after place) k (option_to_list (first_between from upto vs))
+
+-- the same of all rows, by key
+unfoldable pub chosen_in : Choice → Option (Bytes × Time) → List (Vec ℕ × List Version) → List Entry
+chosen_in choice place [] = []
+chosen_in choice place (e ∷ es) = row_chosen choice place e.0.items e.1 ++ chosen_in choice place es
+
+-- the first n that a choice has of a table after a place
+abbrev pub chosen_at : Tables → ℕ → Choice → Option (Bytes × Time) → ℕ → List Entry
+chosen_at h id (All from upto) place n = events_at h id from upto place n
+chosen_at h id (Newest from upto) place n = newest_events_at h id from upto place n
 
 -- the versions of a key, none where it has no row
 abbrev pub versions_in : Option (List Version) → List Version

@@ -2,6 +2,7 @@
 #![tactic(auto)]
 
 mod calls;
+mod choice;
 mod entries;
 mod fact_list;
 mod laws;

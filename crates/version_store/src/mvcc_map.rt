@@ -1,12 +1,14 @@
 //! Versions in ordered maps: the store that answers by searches.
-ghost use Rattle.std.specs.Prelude.{◌≡◌, ℕ, Some, IfOk, OnOk, OnErr};
+ghost use Rattle.std.specs.Prelude.{◌≡◌, ℕ, true, Some, IfOk, OnOk, OnErr};
+ghost use Rattle.mvcc_keys.specs.Times.{time_le};
 ghost use Rattle.version_store.specs.Tables.{Tables, MayAdd, no_facts, with_fact};
-ghost use Rattle.version_store.specs.Rows.{version_fact};
+ghost use Rattle.version_store.specs.Rows.{chosen_at, from_of, version_fact};
 ghost use Rattle.version_store.specs.MapHolding.{IsMade, KeepsAll};
 
+use crate::choice::Choice;
 use crate::entries::table_of;
 use crate::row::Version;
-use crate::rows::{add_version, events_from, newest_from, scan_from, scan_rows, value_in};
+use crate::rows::{add_version, events_from, scan_from, scan_rows, value_in};
 use crate::table_versions::{TableVersions, add_range, collect_table};
 use crate::versions::Versions;
 use mvcc_keys::{Blob, Entry, Hlc, Memory};
@@ -63,6 +65,26 @@ impl MvccMap {
         match self.tables.get_mut(&id) {
             Some(table) => add_version(&mut table.rows, self.alloc, key, version),
             None => Ok(()),
+        }
+    }
+
+    /// The first `n` of a table's puts and deletions that a choice has after a place.
+    fn events_of(
+        &self,
+        table: u32,
+        choice: &Choice,
+        after: &Option<(Blob, Hlc)>,
+        n: usize,
+    ) -> Result<Vec<Entry>, Memory>
+        ensures { IfOk result (λ seen. (h : Tables) → KeepsAll self.now.tables.entries h → time_le (h.threshold table) (from_of choice.now) ≡ true → seen.items ≡ chosen_at h table choice.now after.now n) }
+    {
+        match self.tables.get(&u64::from(table)) {
+            Some(table) => {
+                let mut seen = events_from(self.alloc, &table.rows, choice, after, n)?;
+                seen.truncate(n);
+                Ok(seen)
+            }
+            None => Ok(Vec::new(self.alloc)),
         }
     }
 }
@@ -132,14 +154,7 @@ impl Versions for MvccMap {
         after: &Option<(Blob, Hlc)>,
         n: usize,
     ) -> Result<Vec<Entry>, Memory> {
-        match self.tables.get(&u64::from(table)) {
-            Some(table) => {
-                let mut seen = events_from(self.alloc, &table.rows, from, &upto, after, n)?;
-                seen.truncate(n);
-                Ok(seen)
-            }
-            None => Ok(Vec::new(self.alloc)),
-        }
+        self.events_of(table, &Choice::All { from, upto }, after, n)
     }
 
     fn newest_events(
@@ -150,14 +165,7 @@ impl Versions for MvccMap {
         after: &Option<(Blob, Hlc)>,
         n: usize,
     ) -> Result<Vec<Entry>, Memory> {
-        match self.tables.get(&u64::from(table)) {
-            Some(table) => {
-                let mut seen = newest_from(self.alloc, &table.rows, from, &upto, after, n)?;
-                seen.truncate(n);
-                Ok(seen)
-            }
-            None => Ok(Vec::new(self.alloc)),
-        }
+        self.events_of(table, &Choice::Newest { from, upto }, after, n)
     }
 
     fn ranges(&self, table: u32, from: Hlc, upto: Upto) -> Result<Vec<Entry>, Memory> {

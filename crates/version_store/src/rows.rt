@@ -5,9 +5,10 @@ ghost use Rattle.range_tombstones.specs.Ranges.{newest_cover};
 ghost use Rattle.fact_model.specs.Facts.{Version as FactVersion};
 ghost use Rattle.version_store.specs.Tables.{entry_of};
 ghost use Rattle.version_store.specs.Lists.{seen_item};
-ghost use Rattle.version_store.specs.Rows.{events_in, first_between, first_upto, hits, hits_past, is_after, is_event, newest_rows, row_at, row_events, row_shown, rows_from, seen_past, start_of, trimmed, trimmed_rows, version_fact, version_seen, IsRowAdded, KeysAscend};
+ghost use Rattle.version_store.specs.Rows.{chosen_in, first_between, first_upto, hits, hits_past, is_after, is_event, row_at, row_chosen, row_events, row_shown, rows_from, seen_past, start_of, trimmed, trimmed_rows, version_fact, version_seen, IsRowAdded, KeysAscend};
 
-use crate::row::{Row, Version, first_between, is_between, is_hidden};
+use crate::choice::Choice;
+use crate::row::{Row, Version, is_between, is_hidden};
 use mvcc_keys::{Blob, Entry, Hlc, Memory, cmp_mvcc};
 use range_tombstones::{Fragments, Upto};
 use std::alloc::Global;
@@ -208,6 +209,7 @@ fn add_event(
     seen.push(entry).map_err(|_| Memory)
 }
 
+/// Appends the entries of some versions' events, while there are fewer than `n` entries.
 fn add_events(
     alloc: Global,
     seen: &mut Vec<Entry>,
@@ -216,46 +218,35 @@ fn add_events(
     from: Hlc,
     upto: &Upto,
     place: &Option<(Blob, Hlc)>,
+    n: usize,
 ) -> Result<(), Memory>
-    ensures { OnOk result (seen.new.items ≡ seen.old.items ++ row_events (is_event from upto.now place.now) key.now versions.now) }
+    ensures { OnOk result (take n seen.new.items ≡ take n (seen.old.items ++ row_events (is_event from upto.now place.now) key.now versions.now)) }
 {
     for version in versions.iter() {
+        if seen.len() >= n {
+            return Ok(());
+        }
         add_event(alloc, seen, key, version, from, upto, place)?;
     }
     Ok(())
 }
 
-/// At least the first `n` puts and deletions of an interval after a place, row by row.
-#[tactic(auto, unfolding(crate::specs::Rows::events_in))]
-pub fn events_from(
+/// The same of a row.
+fn add_row_events(
     alloc: Global,
-    rows: &BTreeMap<Vec<u8>, Row>,
+    seen: &mut Vec<Entry>,
+    key: &[u8],
+    row: &Row,
     from: Hlc,
     upto: &Upto,
     place: &Option<(Blob, Hlc)>,
     n: usize,
-) -> Result<Vec<Entry>, Memory>
-    ensures seen { IfOk result (λ seen. take n seen.items ≡ take n (events_in (is_event from upto.now place.now) (rows_from (start_of place.now) rows.now.entries))) }
-    ensures ordered { KeysAscend rows.now.entries }
+) -> Result<(), Memory>
+    ensures { OnOk result (take n seen.new.items ≡ take n (seen.old.items ++ row_events (is_event from upto.now place.now) key.now row.now)) }
 {
-    let _ = rows.len();
-    let start = start_key(alloc, place)?;
-    let mut seen = Vec::new(alloc);
-    for (key, row) in rows.range(start..) {
-        if seen.len() >= n {
-            return Ok(seen);
-        }
-        add_events(
-            alloc,
-            &mut seen,
-            key.as_slice(),
-            row.as_slice(),
-            from,
-            upto,
-            place,
-        )?;
-    }
-    Ok(seen)
+    let (newer, older) = row.as_slices();
+    add_events(alloc, seen, key, newer, from, upto, place, n)?;
+    add_events(alloc, seen, key, older, from, upto, place, n)
 }
 
 /// Appends a version's entry, where it comes after a place.
@@ -280,48 +271,59 @@ fn add_newest(
     alloc: Global,
     seen: &mut Vec<Entry>,
     key: &[u8],
-    versions: &[Version],
+    row: &Row,
     from: Hlc,
     upto: &Upto,
     place: &Option<(Blob, Hlc)>,
 ) -> Result<(), Memory>
-    ensures { OnOk result (seen.new.items ≡ seen.old.items ++ row_events (is_after place.now) key.now (option_to_list (first_between from upto.now versions.now))) }
+    ensures { OnOk result (seen.new.items ≡ seen.old.items ++ row_events (is_after place.now) key.now (option_to_list (first_between from upto.now row.now))) }
 {
-    match first_between(versions, from, upto) {
+    match row.first_between(from, upto) {
         Some(version) => add_after(alloc, seen, key, version, place),
         None => Ok(()),
     }
 }
 
-/// At least the first `n`, after a place, of the newest versions of the rows in an interval.
-#[tactic(auto, unfolding(crate::specs::Rows::events_in))]
-pub fn newest_from(
+/// Appends what a choice has of a row after a place, at least up to `n` entries.
+fn add_chosen(
+    alloc: Global,
+    seen: &mut Vec<Entry>,
+    key: &[u8],
+    row: &Row,
+    choice: &Choice,
+    place: &Option<(Blob, Hlc)>,
+    n: usize,
+) -> Result<(), Memory>
+    ensures { OnOk result (take n seen.new.items ≡ take n (seen.old.items ++ row_chosen choice.now place.now key.now row.now)) }
+{
+    match choice {
+        Choice::All { from, upto } => {
+            add_row_events(alloc, seen, key, row, *from, upto, place, n)
+        }
+        Choice::Newest { from, upto } => add_newest(alloc, seen, key, row, *from, upto, place),
+    }
+}
+
+/// At least the first `n` of the puts and deletions that a choice has after a place, row by row.
+#[tactic(auto, unfolding(crate::specs::Rows::chosen_in))]
+pub fn events_from(
     alloc: Global,
     rows: &BTreeMap<Vec<u8>, Row>,
-    from: Hlc,
-    upto: &Upto,
+    choice: &Choice,
     place: &Option<(Blob, Hlc)>,
     n: usize,
 ) -> Result<Vec<Entry>, Memory>
-    ensures seen { IfOk result (λ seen. take n seen.items ≡ take n (events_in (is_after place.now) (newest_rows from upto.now (rows_from (start_of place.now) rows.now.entries)))) }
+    ensures seen { IfOk result (λ seen. take n seen.items ≡ take n (chosen_in choice.now place.now (rows_from (start_of place.now) rows.now.entries))) }
     ensures ordered { KeysAscend rows.now.entries }
 {
     let _ = rows.len();
-    let start = start_key(alloc, place)?;
     let mut seen = Vec::new(alloc);
+    let start = start_key(alloc, place)?;
     for (key, row) in rows.range(start..) {
         if seen.len() >= n {
             return Ok(seen);
         }
-        add_newest(
-            alloc,
-            &mut seen,
-            key.as_slice(),
-            row.as_slice(),
-            from,
-            upto,
-            place,
-        )?;
+        add_chosen(alloc, &mut seen, key.as_slice(), row, choice, place, n)?;
     }
     Ok(seen)
 }
