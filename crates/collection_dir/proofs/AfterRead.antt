@@ -6,12 +6,12 @@ use Rattle.outside_world.specs.Objects.{Objects}
 use Rattle.outside_world.proofs.Runs.{Run, run_read, same_from, started, still_known, then_call}
 use Rattle.layer_model.specs.declared.names.LayerName.{LayerName}
 use Rattle.layer_model.specs.declared.names.Part.TheVariants.{Gate}
-use Rattle.layer_model.specs.Layers.{Layer}
+use Rattle.layer_model.specs.Layers.{LayerObjects}
 use Rattle.layer_model.specs.Names.{object_name}
 use Rattle.collection_dir.specs.Safety.{IsKept, MayBegin}
 use Rattle.collection_dir.proofs.Steps.{kept_at_first}
 
-module _ {w : Layer} {older : List ℕ} {layer : LayerName} {first : View} (may : MayBegin w older layer first) where
+module _ {w : LayerObjects} {older : List ℕ} {layer : LayerName} {first : View} (may : MayBegin w older layer first) where
   -- before the first call
   pub kept_before : {F : List ℕ → Type 0} → (IsKnown first → (image : Objects) → first.left_since first.moment image → IsImage first image) → Run (IsKept F w older first) (IsKept F w older first) first first
   kept_before {F = F} only = started may.known (only may.known) (λ image now. kept_at_first F w older first image (may.safe image now) now) (λ c q. q)

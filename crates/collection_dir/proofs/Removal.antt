@@ -10,16 +10,17 @@ use Rattle.outside_world.proofs.Runs.{Run, run_sync, run_synced, run_write, star
 use Rattle.layer_model.specs.declared.names.LayerName.{LayerName}
 use Rattle.layer_model.specs.declared.names.Part.{Part}
 use Rattle.layer_model.specs.declared.names.Part.TheVariants.{Gate, Manifest, Chunk, Mark}
-use Rattle.layer_model.specs.Layers.{Layer, IsMarked, IsOpen, name_of, wanted}
+use Rattle.layer_model.specs.Layers.{LayerObjects, IsMarked, IsOpen, name_of_part, wanted}
 use Rattle.layer_model.specs.Names.{IsNumbered, object_name}
 use Rattle.layer_model.proofs.LayerLaws.{parts_apart}
+use Rattle.collection_dir.specs.Finishing.{StaysOver}
 use Rattle.collection_dir.specs.Footprints.{AtChunks, AtForget, AtGate, AtMarks, removal_at, removals}
 use Rattle.collection_dir.specs.Safety.{AreAbsent, IsForgotten, IsKept, MayBegin, MayForget, MayUnchunk, MayUnmark}
 use Rattle.collection_dir.proofs.Parts.{names_apart}
 use Rattle.collection_dir.proofs.Steps.{Bare, Ready, Unmarked, kept_at_first, kept_less, kept_then, step_gate, step_unchunk, step_unlist, step_unmark}
 
 -- no mark vouches where none is there
-no_mark : (w : Layer) (i : ℕ) (c : Objects) → i < length w.chunks → at c (name_of w (Mark i)) ≡ None → ¬ IsMarked w i c
+no_mark : (w : LayerObjects) (i : ℕ) (c : Objects) → i < length w.chunks → at c (name_of_part w (Mark i)) ≡ None → ¬ IsMarked w i c
 no_mark w i c has absent holds = none_wanted w.chunks i has (sym absent ∙ holds)
   where
     none_wanted : (chunks : List (List ℕ)) (k : ℕ) → k < length chunks → None ≡ wanted (record { name = w.name; manifest = w.manifest; chunks = chunks }) (Mark k) → ⊥
@@ -28,7 +29,7 @@ no_mark w i c has absent holds = none_wanted w.chunks i has (sym absent ∙ hold
     none_wanted (b ∷ bs) (suc k) hk e = none_wanted bs k (omega arith) e
 
 -- what the next call asks
-may_from : {F : List ℕ → Type 0} {w : Layer} {older : List ℕ} {layer : LayerName} {first now : View} {Q : Objects → Type 0} → MayBegin w older layer first → Run (IsKept F w older first) Q first now → ((image : Objects) → Q image → IsKept F w older first image) → now.touched (object_name layer Gate) ≡ false → MayBegin w older layer now
+may_from : {F : List ℕ → Type 0} {w : LayerObjects} {older : List ℕ} {layer : LayerName} {first now : View} {Q : Objects → Type 0} → MayBegin w older layer first → Run (IsKept F w older first) Q first now → ((image : Objects) → Q image → IsKept F w older first image) → now.touched (object_name layer Gate) ≡ false → MayBegin w older layer now
 may_from may run so untouched = record {
   known = run.known;
   name = may.name;
@@ -38,11 +39,11 @@ may_from may run so untouched = record {
 }
 
 -- shut_gate
-module _ (w : Layer) (older : List ℕ) (layer : LayerName) (chunks : ℕ) (first : View) (may : MayForget w older layer chunks first) where
+module _ (w : LayerObjects) (older : List ℕ) (layer : LayerName) (chunks : ℕ) (first : View) (may : MayForget w older layer chunks first) where
   abbrev AtG : List ℕ → Type 0
   AtG = AtGate layer
 
-  gate_name : name_of w Gate ≡ object_name layer Gate
+  gate_name : name_of_part w Gate ≡ object_name layer Gate
   gate_name = ap (λ (n : LayerName). object_name n Gate) may.may.name
 
   pub begun : (IsKnown first → (image : Objects) → first.left_since first.moment image → IsImage first image) → Run (IsKept AtG w older first) (Ready AtG w older first) first first
@@ -66,7 +67,7 @@ module _ (w : Layer) (older : List ℕ) (layer : LayerName) (chunks : ℕ) (firs
   shut_on_ok {old = old} {new = new} tells run changes (Ok y) settles =
       let bare : Run (IsKept AtG w older first) (Bare AtG w older first) first new = run_synced run settles
       (λ image q equal.
-      let none : at image (name_of w Gate) ≡ None = equal (name_of w Gate) ∙ ap (at old.objects) gate_name ∙ (changes.content tells).written in
+      let none : at image (name_of_part w Gate) ≡ None = equal (name_of_part w Gate) ∙ ap (at old.objects) gate_name ∙ (changes.content tells).written in
       ((q.0, λ holds. let e : None ≡ Some (1 ∷ []) = sym none ∙ holds in cc), λ i hi. ⊎_elim (λ all. all (Chunk i) hi (λ e. cc)) (λ all. all (Chunk i) hi (λ e. cc)) q.1))
       (λ c q. q.0.0) in
       record {
@@ -77,11 +78,11 @@ module _ (w : Layer) (older : List ℕ) (layer : LayerName) (chunks : ℕ) (firs
       }
 
 -- remove_marks
-module _ (w : Layer) (older : List ℕ) (layer : LayerName) (chunks : ℕ) (first : View) (may : MayUnmark w older layer chunks first) where
+module _ (w : LayerObjects) (older : List ℕ) (layer : LayerName) (chunks : ℕ) (first : View) (may : MayUnmark w older layer chunks first) where
   abbrev AtM : List ℕ → Type 0
   AtM = AtMarks layer chunks
 
-  mark_name : (i : ℕ) → name_of w (Mark i) ≡ object_name layer (Mark i)
+  mark_name : (i : ℕ) → name_of_part w (Mark i) ≡ object_name layer (Mark i)
   mark_name i = ap (λ (n : LayerName). object_name n (Mark i)) may.may.name
 
   pub begun_marks : (IsKnown first → (image : Objects) → first.left_since first.moment image → IsImage first image) → Run (IsKept AtM w older first) (Bare AtM w older first) first first
@@ -101,7 +102,7 @@ module _ (w : Layer) (older : List ℕ) (layer : LayerName) (chunks : ℕ) (firs
   unmarked_on_ok run absent (Err e) settles = tt
   unmarked_on_ok {old = old} {new = new} run absent (Ok y) settles =
       let unmarked : Run (IsKept AtM w older first) (Unmarked AtM w older first) first new = run_synced run settles
-      (λ image q equal. (q.0, λ i hi. no_mark w i image hi (equal (name_of w (Mark i)) ∙ ap (at old.objects) (mark_name i) ∙ absent i (omega (arith, hi, may.count)))))
+      (λ image q equal. (q.0, λ i hi. no_mark w i image hi (equal (name_of_part w (Mark i)) ∙ ap (at old.objects) (mark_name i) ∙ absent i (omega (arith, hi, may.count)))))
       (λ c q. q.0.0) in
       record {
         may = may_from may.may unmarked (λ c q. q.0.0) ((settles.content run.known.tells).ok (object_name layer Gate));
@@ -111,11 +112,11 @@ module _ (w : Layer) (older : List ℕ) (layer : LayerName) (chunks : ℕ) (firs
       }
 
 -- remove_chunks
-module _ (w : Layer) (older : List ℕ) (layer : LayerName) (chunks : ℕ) (first : View) (may : MayUnchunk w older layer chunks first) where
+module _ (w : LayerObjects) (older : List ℕ) (layer : LayerName) (chunks : ℕ) (first : View) (may : MayUnchunk w older layer chunks first) where
   abbrev AtC : List ℕ → Type 0
   AtC = AtChunks layer chunks
 
-  part_name : (p : Part) → name_of w p ≡ object_name layer p
+  part_name : (p : Part) → name_of_part w p ≡ object_name layer p
   part_name p = ap (λ (n : LayerName). object_name n p) may.may.name
 
   pub begun_chunks : (IsKnown first → (image : Objects) → first.left_since first.moment image → IsImage first image) → Run (IsKept AtC w older first) (Unmarked AtC w older first) first first
@@ -178,14 +179,29 @@ module _ (layer : LayerName) (chunks : ℕ) (few : chunks ≤ 1000000) where
     marks_gone = λ i lt. rest.objects tells (object_name layer (Mark i)) (λ x. x) (outside_chunks (Mark i) (omega (arith, lt, few)) (λ e. cc) (λ j e. cc)) ∙ unmarked i lt;
   }
 
+  -- the gate, once it is gone, stays so
+  pub gate_gone : {a b : View} → a.tells ≡ true → at a.objects (object_name layer Gate) ≡ None → ChangesOnly NoName (AtMarks layer chunks) a b → at b.objects (object_name layer Gate) ≡ None
+  gate_gone told shut marks = marks.objects told (object_name layer Gate) (λ x. x) (outside_marks Gate tt (λ i e. cc)) ∙ shut
+
+  pub gate_gone_on : {a b : View} → a.tells ≡ true → at a.objects (object_name layer Gate) ≡ None → ChangesOnly NoName (AtChunks layer chunks) a b → at b.objects (object_name layer Gate) ≡ None
+  gate_gone_on told shut rest = rest.objects told (object_name layer Gate) (λ x. x) (outside_chunks Gate tt (λ e. cc) (λ i e. cc)) ∙ shut
+
+-- only the gate may have changed
+pub stays_at_gate : (layer : LayerName) {a b : View} → a.tells ≡ true → ChangesOnly NoName (AtGate layer) a b → StaysOver layer a.objects b.objects
+stays_at_gate layer told changes is_open = changes.objects told (object_name layer Manifest) (λ x. x) (names_apart layer Manifest Gate tt tt (λ e. cc))
+
+-- no gate is there
+pub stays_gone : (layer : LayerName) (a b : Objects) → at b (object_name layer Gate) ≡ None → StaysOver layer a b
+stays_gone layer a b none is_open = (let e : None ≡ Some (1 ∷ []) = sym none ∙ is_open in absurd cc)
+
 -- each moment so far counts as one since any earlier moment
 abbrev Counts : View → Type 0
 Counts v = (t : ℕ) (image : Objects) → IsKnown v → t ≤ v.moment → IsImage v image → v.left_since t image
 
-pub then_unmarked : {w : Layer} {older : List ℕ} (layer : LayerName) (chunks : ℕ) {first mid new : View} → LeavesOnly first mid (IsKept (AtGate layer) w older first) → IsKnown mid → Counts mid → LeavesOnly mid new (IsKept (AtMarks layer chunks) w older mid) → LeavesOnly first new (IsKept (AtForget layer chunks) w older first)
+pub then_unmarked : {w : LayerObjects} {older : List ℕ} (layer : LayerName) (chunks : ℕ) {first mid new : View} → LeavesOnly first mid (IsKept (AtGate layer) w older first) → IsKnown mid → Counts mid → LeavesOnly mid new (IsKept (AtMarks layer chunks) w older mid) → LeavesOnly first new (IsKept (AtForget layer chunks) w older first)
 then_unmarked layer chunks shut known counts unmarked = kept_then (λ n e. inr (inl e)) (kept_less (λ n e. inl e) shut) (λ image now. counts _ image known shut.later now) unmarked
 
-pub then_unchunked : {w : Layer} {older : List ℕ} (layer : LayerName) (chunks : ℕ) {first mid new : View} → LeavesOnly first mid (IsKept (AtForget layer chunks) w older first) → IsKnown mid → Counts mid → LeavesOnly mid new (IsKept (AtChunks layer chunks) w older mid) → LeavesOnly first new (IsKept (AtForget layer chunks) w older first)
+pub then_unchunked : {w : LayerObjects} {older : List ℕ} (layer : LayerName) (chunks : ℕ) {first mid new : View} → LeavesOnly first mid (IsKept (AtForget layer chunks) w older first) → IsKnown mid → Counts mid → LeavesOnly mid new (IsKept (AtChunks layer chunks) w older mid) → LeavesOnly first new (IsKept (AtForget layer chunks) w older first)
 then_unchunked layer chunks so_far known counts unchunked = kept_then (λ n e. inr (inr e)) so_far (λ image now. counts _ image known so_far.later now) unchunked
 
 -- three lists of calls, one after the other

@@ -7,28 +7,28 @@ use Rattle.outside_world.specs.Objects.{Objects}
 use Rattle.outside_world.proofs.Runs.{then_call, leaves_less}
 use Rattle.layer_model.specs.declared.names.Part.{Part}
 use Rattle.layer_model.specs.declared.names.Part.TheVariants.{Gate, Manifest, Chunk, Mark}
-use Rattle.layer_model.specs.Layers.{Layer, Has, Holds, IsMarked, IsOpen, IsWhole, name_of}
+use Rattle.layer_model.specs.Layers.{LayerObjects, HasPart, Holds, IsMarked, IsOpen, IsWhole, name_of_part}
 use Rattle.collection_dir.specs.Safety.{IsKept, IsSafeInEither, with_manifest}
 use Rattle.collection_dir.proofs.Parts.{AreApart, older_apart, part_cases, so_held, then_holds}
 
 -- all but the gate is there
-abbrev pub IsReady : Layer → Objects → Type 0
-IsReady w c = (part : Part) → Has w part → part ≢ Gate → Holds w part c
+abbrev pub IsReady : LayerObjects → Objects → Type 0
+IsReady w c = (part : Part) → HasPart w part → part ≢ Gate → Holds w part c
 
-abbrev pub IsReadyInEither : Layer → List ℕ → Objects → Type 0
+abbrev pub IsReadyInEither : LayerObjects → List ℕ → Objects → Type 0
 IsReadyInEither w older c = IsReady w c ⊎ IsReady (with_manifest w older) c
 
 -- the gate may change while all else is there
-still_ready : (w : Layer) (source image : Objects) → AreApart w → AgreeBut (name_of w Gate) source image → IsReady w source → IsReady w image
+still_ready : (w : LayerObjects) (source image : Objects) → AreApart w → AgreeBut (name_of_part w Gate) source image → IsReady w source → IsReady w image
 still_ready w source image apart agree ready part has ne = then_holds w Gate part source image apart tt has ne agree (ready part has ne)
 
-pub whole_if_open : (w : Layer) (c : Objects) → IsReady w c → IsOpen w c → IsWhole w c
+pub whole_if_open : (w : LayerObjects) (c : Objects) → IsReady w c → IsOpen w c → IsWhole w c
 whole_if_open w c ready is_open part has = ⊎_elim
     (λ (e : part ≡ Gate). subst (λ p. Holds w p c) (sym e) is_open)
     (λ (ne : part ≢ Gate). ready part has ne)
     (part_cases part)
 
-module _ (w : Layer) (older : List ℕ) where
+module _ (w : LayerObjects) (older : List ℕ) where
   -- a safe map with a mark that doesn't vouch isn't open
   pub shut : (i : ℕ) (c : Objects) → IsSafeInEither w older c → i < length w.chunks → ¬ IsMarked w i c → ¬ IsOpen w c
   shut i c safe has un is_open = ⊎_elim (λ whole. un (whole (Mark i) has)) (λ whole. un (whole (Mark i) has)) (safe.open_whole is_open)
@@ -39,9 +39,9 @@ module _ (w : Layer) (older : List ℕ) where
     marked = λ j hj holds. ⊎_elim (λ all. all (Chunk j) hj (λ e. cc)) (λ all. all (Chunk j) hj (λ e. cc)) ready;
   }
 
-module _ (w : Layer) (older : List ℕ) (source image : Objects) (apart : AreApart w) where
+module _ (w : LayerObjects) (older : List ℕ) (source image : Objects) (apart : AreApart w) where
   -- a chunk may change while its mark doesn't vouch
-  safe_chunk : (i : ℕ) → i < length w.chunks → IsSafeInEither w older source → ¬ IsMarked w i source → AgreeBut (name_of w (Chunk i)) source image → IsSafeInEither w older image
+  safe_chunk : (i : ℕ) → i < length w.chunks → IsSafeInEither w older source → ¬ IsMarked w i source → AgreeBut (name_of_part w (Chunk i)) source image → IsSafeInEither w older image
   safe_chunk i has safe un agree = record {
     open_whole = λ is_open. absurd (shut w older i source safe has un (so_held w (Chunk i) Gate source image apart has tt (λ e. cc) agree is_open));
     marked = λ j hj holds. ⊎_elim
@@ -52,7 +52,7 @@ module _ (w : Layer) (older : List ℕ) (source image : Objects) (apart : AreApa
   }
 
   -- a mark may change while its chunk is whole and the gate is shut
-  safe_mark : (i : ℕ) → i < length w.chunks → IsSafeInEither w older source → ¬ IsOpen w source → Holds w (Chunk i) source → AgreeBut (name_of w (Mark i)) source image → IsSafeInEither w older image
+  safe_mark : (i : ℕ) → i < length w.chunks → IsSafeInEither w older source → ¬ IsOpen w source → Holds w (Chunk i) source → AgreeBut (name_of_part w (Mark i)) source image → IsSafeInEither w older image
   safe_mark i has safe closed whole agree = record {
     open_whole = λ is_open. absurd (closed (so_held w (Mark i) Gate source image apart has tt (λ e. cc) agree is_open));
     marked = λ j hj holds. ⊎_elim
@@ -63,7 +63,7 @@ module _ (w : Layer) (older : List ℕ) (source image : Objects) (apart : AreApa
   }
 
   -- the manifest may change while the gate is shut
-  safe_manifest : IsSafeInEither w older source → ¬ IsOpen w source → AgreeBut (name_of w Manifest) source image → IsSafeInEither w older image
+  safe_manifest : IsSafeInEither w older source → ¬ IsOpen w source → AgreeBut (name_of_part w Manifest) source image → IsSafeInEither w older image
   safe_manifest safe closed agree = record {
     open_whole = λ is_open. absurd (closed (so_held w Manifest Gate source image apart tt tt (λ e. cc) agree is_open));
     marked = λ j hj holds. then_holds w Manifest (Chunk j) source image apart tt hj (λ e. cc) agree
@@ -71,7 +71,7 @@ module _ (w : Layer) (older : List ℕ) (source image : Objects) (apart : AreApa
   }
 
 -- What the images of one call have, from stage to stage: F are the names that the call may change.
-module _ (F : List ℕ → Type 0) (w : Layer) (older : List ℕ) (first : View) where
+module _ (F : List ℕ → Type 0) (w : LayerObjects) (older : List ℕ) (first : View) where
   -- kept, and the mark doesn't vouch
   abbrev pub Unvouched : ℕ → Objects → Type 0
   Unvouched i c = IsKept F w older first c × ¬ IsMarked w i c
@@ -105,7 +105,7 @@ module _ (F : List ℕ → Type 0) (w : Layer) (older : List ℕ) (first : View)
 
   module _ (source image : Objects) (apart : AreApart w) where
     -- a change of one part keeps what is elsewhere
-    kept : (p : Part) → F (name_of w p) → IsKept F w older first source → AgreeBut (name_of w p) source image → IsSafeInEither w older image → IsKept F w older first image
+    kept : (p : Part) → F (name_of_part w p) → IsKept F w older first source → AgreeBut (name_of_part w p) source image → IsSafeInEither w older image → IsKept F w older first image
     kept p inside k agree safe = record {
       safe = safe;
       source = k.source;
@@ -113,30 +113,30 @@ module _ (F : List ℕ → Type 0) (w : Layer) (older : List ℕ) (first : View)
       elsewhere = λ n out. agree n (λ e. out (subst F (sym e) inside)) ∙ k.elsewhere n out;
     }
 
-    pub step_chunk : (i : ℕ) → i < length w.chunks → F (name_of w (Chunk i)) → AgreeBut (name_of w (Chunk i)) source image → Unvouched i source → Unvouched i image
+    pub step_chunk : (i : ℕ) → i < length w.chunks → F (name_of_part w (Chunk i)) → AgreeBut (name_of_part w (Chunk i)) source image → Unvouched i source → Unvouched i image
     step_chunk i has inside agree q = (
       kept (Chunk i) inside q.0 agree (safe_chunk w older source image apart i has q.0.safe q.1 agree),
       λ holds. q.1 (so_held w (Chunk i) (Mark i) source image apart has has (λ e. cc) agree holds),
     )
 
-    pub step_mark : (i : ℕ) → i < length w.chunks → F (name_of w (Mark i)) → AgreeBut (name_of w (Mark i)) source image → Staged i source → Stored i image
+    pub step_mark : (i : ℕ) → i < length w.chunks → F (name_of_part w (Mark i)) → AgreeBut (name_of_part w (Mark i)) source image → Staged i source → Stored i image
     step_mark i has inside agree q = (
       kept (Mark i) inside q.0 agree (safe_mark w older source image apart i has q.0.safe (shut w older i source q.0.safe has q.1) q.2 agree),
       then_holds w (Mark i) (Chunk i) source image apart has has (λ e. cc) agree q.2,
     )
 
-    pub step_manifest : F (name_of w Manifest) → AgreeBut (name_of w Manifest) source image → Closed source → Closed image
+    pub step_manifest : F (name_of_part w Manifest) → AgreeBut (name_of_part w Manifest) source image → Closed source → Closed image
     step_manifest inside agree q = (
       kept Manifest inside q.0 agree (safe_manifest w older source image apart q.0.safe q.1 agree),
       λ holds. q.1 (so_held w Manifest Gate source image apart tt tt (λ e. cc) agree holds),
     )
 
-    pub step_gate : F (name_of w Gate) → AgreeBut (name_of w Gate) source image → Ready source → Ready image
+    pub step_gate : F (name_of_part w Gate) → AgreeBut (name_of_part w Gate) source image → Ready source → Ready image
     step_gate inside agree q =
         let ready : IsReadyInEither w older image = ⊎_elim (λ all. inl (still_ready w source image apart agree all)) (λ all. inr (still_ready (with_manifest w older) source image (older_apart w older apart) agree all)) q.1 in
         (kept Gate inside q.0 agree (safe_ready w older image ready), ready)
 
-    pub step_unmark : (j : ℕ) → j < length w.chunks → F (name_of w (Mark j)) → AgreeBut (name_of w (Mark j)) source image → Bare source → Bare image
+    pub step_unmark : (j : ℕ) → j < length w.chunks → F (name_of_part w (Mark j)) → AgreeBut (name_of_part w (Mark j)) source image → Bare source → Bare image
     step_unmark j has inside agree q = (
       (
         kept (Mark j) inside q.0.0 agree (safe_mark w older source image apart j has q.0.0.safe q.0.1 (q.1 j has) agree),
@@ -145,7 +145,7 @@ module _ (F : List ℕ → Type 0) (w : Layer) (older : List ℕ) (first : View)
       λ i hi. then_holds w (Mark j) (Chunk i) source image apart has hi (λ e. cc) agree (q.1 i hi),
     )
 
-    pub step_unchunk : (j : ℕ) → j < length w.chunks → F (name_of w (Chunk j)) → AgreeBut (name_of w (Chunk j)) source image → Unmarked source → Unmarked image
+    pub step_unchunk : (j : ℕ) → j < length w.chunks → F (name_of_part w (Chunk j)) → AgreeBut (name_of_part w (Chunk j)) source image → Unmarked source → Unmarked image
     step_unchunk j has inside agree q = (
       (
         kept (Chunk j) inside q.0.0 agree (safe_chunk w older source image apart j has q.0.0.safe (q.1 j has) agree),
@@ -154,17 +154,17 @@ module _ (F : List ℕ → Type 0) (w : Layer) (older : List ℕ) (first : View)
       λ i hi holds. q.1 i hi (so_held w (Chunk j) (Mark i) source image apart has hi (λ e. cc) agree holds),
     )
 
-    pub step_unlist : F (name_of w Manifest) → AgreeBut (name_of w Manifest) source image → Unmarked source → Unmarked image
+    pub step_unlist : F (name_of_part w Manifest) → AgreeBut (name_of_part w Manifest) source image → Unmarked source → Unmarked image
     step_unlist inside agree q = (
       step_manifest inside agree q.0,
       λ i hi holds. q.1 i hi (so_held w Manifest (Mark i) source image apart tt hi (λ e. cc) agree holds),
     )
 
 -- two calls on one layer
-pub kept_then : {F G : List ℕ → Type 0} {w : Layer} {older : List ℕ} {first mid new : View} → ((n : List ℕ) → G n → F n) → LeavesOnly first mid (IsKept F w older first) → ((image : Objects) → IsImage mid image → mid.left_since first.moment image) → LeavesOnly mid new (IsKept G w older mid) → LeavesOnly first new (IsKept F w older first)
+pub kept_then : {F G : List ℕ → Type 0} {w : LayerObjects} {older : List ℕ} {first mid new : View} → ((n : List ℕ) → G n → F n) → LeavesOnly first mid (IsKept F w older first) → ((image : Objects) → IsImage mid image → mid.left_since first.moment image) → LeavesOnly mid new (IsKept G w older mid) → LeavesOnly first new (IsKept F w older first)
 kept_then within a counts b = then_call a b
     (λ c k. let s = a.each k.source (counts k.source k.was) in
     record { safe = k.safe; source = s.source; was = s.was; elsewhere = λ n out. k.elsewhere n (λ g. out (within n g)) ∙ s.elsewhere n out })
 
-pub kept_less : {F G : List ℕ → Type 0} {w : Layer} {older : List ℕ} {first new : View} → ((n : List ℕ) → F n → G n) → LeavesOnly first new (IsKept F w older first) → LeavesOnly first new (IsKept G w older first)
+pub kept_less : {F G : List ℕ → Type 0} {w : LayerObjects} {older : List ℕ} {first new : View} → ((n : List ℕ) → F n → G n) → LeavesOnly first new (IsKept F w older first) → LeavesOnly first new (IsKept G w older first)
 kept_less within a = leaves_less (λ c k. record { safe = k.safe; source = k.source; was = k.was; elsewhere = λ n out. k.elsewhere n (λ f. out (within n f)) }) a

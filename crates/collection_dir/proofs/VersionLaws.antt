@@ -41,7 +41,7 @@ count_from : (ts : List TablePart) (n : ℕ) → (let add : ℕ → TablePart �
 count_from [] n = refl
 count_from (t ∷ ts) n = ap (λ (k : ℕ). fold (λ (a : ℕ) (u : TablePart). a + length u.chunks) (n + k) (map first_table ts)) (length-map t.chunks first_chunk) ∙ count_from ts (n + length t.chunks)
 
-count-first : (ts : List TablePart) → chunk_count (map first_table ts) ≡ chunk_count ts
+pub count-first : (ts : List TablePart) → chunk_count (map first_table ts) ≡ chunk_count ts
 count-first ts = count_from ts 0
 
 next-first : (version : ℕ) (before : List TablePart) (t : TablePart) → IsNextTable version before t → IsNextTable 1 (map first_table before) (first_table t)

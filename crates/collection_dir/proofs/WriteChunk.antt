@@ -11,7 +11,7 @@ use Rattle.outside_world.proofs.Runs.{Run, same_from, started}
 use Rattle.layer_model.specs.declared.names.LayerName.{LayerName}
 use Rattle.layer_model.specs.declared.names.Part.{Part}
 use Rattle.layer_model.specs.declared.names.Part.TheVariants.{Chunk, Mark}
-use Rattle.layer_model.specs.Layers.{Layer, Holds, IsMarked, name_of, wanted}
+use Rattle.layer_model.specs.Layers.{LayerObjects, Holds, IsMarked, name_of_part, wanted}
 use Rattle.layer_model.specs.Names.{object_name}
 use Rattle.collection_dir.specs.Footprints.{AtChunk}
 use Rattle.collection_dir.specs.Safety.{IsKept, MayWriteChunk}
@@ -20,14 +20,14 @@ use Rattle.collection_dir.proofs.Parts.{AreApart}
 use Rattle.layer_model.proofs.LayerLaws.{parts_apart}
 use Rattle.collection_dir.proofs.Steps.{Staged, Stored, Unvouched, kept_at_first, step_chunk, step_mark}
 
-module _ (w : Layer) (older : List ℕ) (layer : LayerName) (i : ℕ) (bytes : List ℕ) (first : View) (may : MayWriteChunk w older layer i bytes first) where
+module _ (w : LayerObjects) (older : List ℕ) (layer : LayerName) (i : ℕ) (bytes : List ℕ) (first : View) (may : MayWriteChunk w older layer i bytes first) where
   abbrev F : List ℕ → Type 0
   F = AtChunk layer i
 
   abbrev P : Objects → Type 0
   P = IsKept F w older first
 
-  name : (p : Part) → name_of w p ≡ object_name layer p
+  name : (p : Part) → name_of_part w p ≡ object_name layer p
   name p = ap (λ (n : LayerName). object_name n p) may.may.name
 
   apart : AreApart w

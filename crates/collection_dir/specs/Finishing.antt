@@ -15,6 +15,14 @@ use Rattle.collection_dir.specs.Versions.{first_version}
 abbrev pub IsGateOpen : LayerName → Objects → Type 0
 IsGateOpen layer objects = at objects (object_name layer part.Gate) ≡ Some (1 ∷ [])
 
+-- where the gate is open now and wasn't, the manifest is there in these bytes
+abbrev pub OpensOver : LayerName → List ℕ → Objects → Objects → Type 0
+OpensOver layer bytes old new = ¬ IsGateOpen layer old → IsGateOpen layer new → at new (object_name layer part.Manifest) ≡ Some bytes
+
+-- where the gate is open still, the manifest is as it was
+abbrev pub StaysOver : LayerName → Objects → Objects → Type 0
+StaysOver layer old new = IsGateOpen layer new → at new (object_name layer part.Manifest) ≡ at old (object_name layer part.Manifest)
+
 -- what is found are the bytes of the manifest, in version 2 or in version 1
 abbrev pub IsManifestOf : Manifest → Option (List ℕ) → Type 0
 IsManifestOf m found = (found ≡ Some (manifest_code m)) ⊎ (found ≡ Some (manifest_code (first_version m)))

@@ -1,10 +1,12 @@
 -- The names that each call on a layer may change, and the calls on the disk that it makes.
-use Rattle.std.specs.Prelude.{◌≡◌, ◌<◌, ◌⊎◌, ℕ, zero, suc, Bool, true, List, [], ◌∷◌, ◌++◌, if◌then◌else◌}
+use Rattle.std.specs.Prelude.{◌≡◌, ◌<◌, ◌⊎◌, ℕ, zero, suc, Bool, true, List, [], ◌∷◌, ◌++◌, length, if◌then◌else◌}
 use Rattle.outside_world.specs.declared.call.DiskCall.{DiskCall}
 use Rattle.outside_world.specs.declared.call.DiskCall.TheVariants.{Put, Removal, Sync}
 use Rattle.layer_model.specs.declared.names.LayerName.{LayerName}
 use Rattle.layer_model.specs.declared.names.Part.{Part}
 use Rattle.layer_model.specs.declared.names.Part.TheVariants.{Gate, Manifest, Chunk, Mark}
+use Rattle.outside_world.specs.Objects.{Objects}
+use Rattle.layer_model.specs.Layers.{IsMarked, IsPartName, LayerObjects}
 use Rattle.layer_model.specs.Names.{object_name}
 
 -- writing a chunk changes it and its mark
@@ -29,6 +31,14 @@ AtChunks layer chunks n = (n ≡ object_name layer Manifest) ⊎ (i : ℕ) × (i
 -- forgetting changes all of these
 abbrev pub AtForget : LayerName → ℕ → List ℕ → Type 0
 AtForget layer chunks n = AtGate layer n ⊎ AtMarks layer chunks n ⊎ AtChunks layer chunks n
+
+-- a chunk of the layer that is marked, or its mark
+abbrev pub AtMarked : LayerObjects → Objects → List ℕ → Type 0
+AtMarked w objects n = (i : ℕ) × (i < length w.chunks) × IsMarked w i objects × AtChunk w.name i n
+
+-- the other names of its parts
+abbrev pub AtUnmarked : LayerObjects → Objects → List ℕ → Type 0
+AtUnmarked w objects n = IsPartName w n × ¬ AtMarked w objects n
 
 -- ---- calls, each with its answer Ok
 

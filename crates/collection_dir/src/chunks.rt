@@ -5,7 +5,7 @@ ghost use Rattle.outside_world.specs.Disk.{Tells, IsSameContent, DiskHasCause};
 ghost use Rattle.outside_world.specs.Moments.{ChangesOnly, InEachImage, LeavesOnly, NoName};
 ghost use Rattle.outside_world.specs.Objects.{at};
 ghost use Rattle.layer_model.specs.declared.names.Part.TheVariants.{Chunk, Mark};
-ghost use Rattle.layer_model.specs.Layers.{Layer, Holds};
+ghost use Rattle.layer_model.specs.Layers.{LayerObjects, Holds};
 ghost use Rattle.layer_model.specs.Names.{object_name};
 ghost use Rattle.collection_dir.specs.Faults.{DirHasCause, IsDiskFault};
 ghost use Rattle.collection_dir.specs.Footprints.{AtChunk, chunk_calls};
@@ -33,10 +33,10 @@ fn store_chunk<D: Disk>(
         → OnOk result (at (D.view disk.new).objects (object_name layer.now (Chunk number)) ≡ Some bytes.now) }
     ensures marked { Tells (D.view disk.old) → OnOk result (at (D.view disk.new).objects (object_name layer.now (Mark number)) ≡ Some digest.now) }
     ensures settled { Tells (D.view disk.old) → OnOk result ((n : List ℕ) → n ≢ object_name layer.now (Mark number) → (D.view disk.new).touched n ≡ false) }
-    ensures layer { (w : Layer) (older : List ℕ) → MayWriteChunk w older layer.now number bytes.now (D.view disk.old)
+    ensures layer { (w : LayerObjects) (older : List ℕ) → MayWriteChunk w older layer.now number bytes.now (D.view disk.old)
         → at (D.view disk.old).objects (object_name layer.now (Mark number)) ≢ Some (sha256 bytes.now)
         → LeavesOnly (D.view disk.old) (D.view disk.new) (IsKept (AtChunk layer.now number) w older (D.view disk.old)) }
-    ensures stored { (w : Layer) (older : List ℕ) → MayWriteChunk w older layer.now number bytes.now (D.view disk.old)
+    ensures stored { (w : LayerObjects) (older : List ℕ) → MayWriteChunk w older layer.now number bytes.now (D.view disk.old)
         → at (D.view disk.old).objects (object_name layer.now (Mark number)) ≢ Some (sha256 bytes.now)
         → OnOk result (InEachImage (D.view disk.new) (Holds w (Chunk number))) }
     ensures changes { ChangesOnly (AtChunk layer.now number) NoName (D.view disk.old) (D.view disk.new) }
@@ -66,9 +66,9 @@ pub fn write_chunk<D: Disk>(
     ensures marked { Tells (D.view disk.old) → OnOk result (at (D.view disk.new).objects (object_name layer.now (Mark number)) ≡ Some (sha256 bytes.now)) }
     ensures settled { Tells (D.view disk.old)
         → OnOk result ((n : List ℕ) → n ≢ object_name layer.now (Mark number) → (D.view disk.old).touched n ≡ false → (D.view disk.new).touched n ≡ false) }
-    ensures layer { (w : Layer) (older : List ℕ) → MayWriteChunk w older layer.now number bytes.now (D.view disk.old)
+    ensures layer { (w : LayerObjects) (older : List ℕ) → MayWriteChunk w older layer.now number bytes.now (D.view disk.old)
         → LeavesOnly (D.view disk.old) (D.view disk.new) (IsKept (AtChunk layer.now number) w older (D.view disk.old)) }
-    ensures stored { (w : Layer) (older : List ℕ) → MayWriteChunk w older layer.now number bytes.now (D.view disk.old)
+    ensures stored { (w : LayerObjects) (older : List ℕ) → MayWriteChunk w older layer.now number bytes.now (D.view disk.old)
         → OnOk result (InEachImage (D.view disk.new) (Holds w (Chunk number))) }
     ensures changes { ChangesOnly (AtChunk layer.now number) NoName (D.view disk.old) (D.view disk.new) }
     ensures fault { IfErr result IsDiskFault }

@@ -7,11 +7,11 @@ ghost use Rattle.outside_world.specs.Objects.{at};
 ghost use Rattle.layer_manifest.specs.ManifestFiles.{manifest_code};
 ghost use Rattle.layer_manifest.specs.Manifests.{IsProperManifest};
 ghost use Rattle.layer_model.specs.declared.names.Part.TheVariants as part;
-ghost use Rattle.layer_model.specs.Layers.{Layer, IsWhole};
+ghost use Rattle.layer_model.specs.Layers.{LayerObjects, IsWhole};
 ghost use Rattle.layer_model.specs.Names.{object_name};
 ghost use Rattle.collection_dir.specs.declared.fault.DirFault.TheVariants.{LayerDiffers};
 ghost use Rattle.collection_dir.specs.Faults.{DirHasCause};
-ghost use Rattle.collection_dir.specs.Finishing.{DiffersOnlyOver, IsDifference, IsFinishFault, IsGateOpen, IsManifestOf};
+ghost use Rattle.collection_dir.specs.Finishing.{DiffersOnlyOver, IsDifference, IsFinishFault, IsGateOpen, IsManifestOf, OpensOver};
 ghost use Rattle.collection_dir.specs.Footprints.{AtFinish, finish_calls};
 ghost use Rattle.collection_dir.specs.Safety.{IsKept, IsWholeInEither, MayFinish};
 
@@ -136,9 +136,10 @@ fn open_gate<D: Disk>(
     ensures put { Tells (D.view disk.old) → OnOk result (at (D.view disk.new).objects (object_name layer.now part.Manifest) ≡ Some bytes.now) }
     ensures open { Tells (D.view disk.old) → OnOk result (IsGateOpen layer.now (D.view disk.new).objects) }
     ensures settled { Tells (D.view disk.old) → OnOk result (IsSettled (D.view disk.new)) }
-    ensures layer { (w : Layer) (older : List ℕ) → MayFinish w older layer.now bytes.now (D.view disk.old) → ¬ IsGateOpen layer.now (D.view disk.old).objects
+    ensures opens { Tells (D.view disk.old) → OpensOver layer.now bytes.now (D.view disk.old).objects (D.view disk.new).objects }
+    ensures layer { (w : LayerObjects) (older : List ℕ) → MayFinish w older layer.now bytes.now (D.view disk.old) → ¬ IsGateOpen layer.now (D.view disk.old).objects
         → LeavesOnly (D.view disk.old) (D.view disk.new) (IsKept (AtFinish layer.now) w older (D.view disk.old)) }
-    ensures whole { (w : Layer) (older : List ℕ) → MayFinish w older layer.now bytes.now (D.view disk.old) → ¬ IsGateOpen layer.now (D.view disk.old).objects
+    ensures whole { (w : LayerObjects) (older : List ℕ) → MayFinish w older layer.now bytes.now (D.view disk.old) → ¬ IsGateOpen layer.now (D.view disk.old).objects
         → OnOk result (InEachImage (D.view disk.new) (IsWhole w)) }
     ensures changes { ChangesOnly (AtFinish layer.now) NoName (D.view disk.old) (D.view disk.new) }
     ensures cause { DiskHasCause (D.view disk.old).faults (D.view disk.new).faults result }
@@ -167,10 +168,13 @@ pub fn finish_layer<D: Disk>(
         → OnOk result (at (D.view disk.new).objects (object_name layer.now part.Manifest) ≡ Some (manifest_code m.now)) }
     ensures open { Tells (D.view disk.old) → OnOk result (IsGateOpen layer.now (D.view disk.new).objects) }
     ensures settled { Tells (D.view disk.old) → ¬ IsGateOpen layer.now (D.view disk.old).objects → OnOk result (IsSettled (D.view disk.new)) }
-    ensures layer { (w : Layer) (older : List ℕ) → MayFinish w older layer.now (manifest_code m.now) (D.view disk.old)
+    ensures layer { (w : LayerObjects) (older : List ℕ) → MayFinish w older layer.now (manifest_code m.now) (D.view disk.old)
         → LeavesOnly (D.view disk.old) (D.view disk.new) (IsKept (AtFinish layer.now) w older (D.view disk.old)) }
-    ensures whole { (w : Layer) (older : List ℕ) → MayFinish w older layer.now (manifest_code m.now) (D.view disk.old)
+    ensures whole { (w : LayerObjects) (older : List ℕ) → MayFinish w older layer.now (manifest_code m.now) (D.view disk.old)
         → OnOk result (InEachImage (D.view disk.new) (IsWholeInEither w older)) }
+    ensures fresh { (w : LayerObjects) (older : List ℕ) → MayFinish w older layer.now (manifest_code m.now) (D.view disk.old) → ¬ IsGateOpen layer.now (D.view disk.old).objects
+        → OnOk result (InEachImage (D.view disk.new) (IsWhole w)) }
+    ensures opens { Tells (D.view disk.old) → OpensOver layer.now (manifest_code m.now) (D.view disk.old).objects (D.view disk.new).objects }
     ensures changes { ChangesOnly (AtFinish layer.now) NoName (D.view disk.old) (D.view disk.new) }
     ensures fault { IfErr result (IsFinishFault layer.now m.now) }
     ensures cause { DirHasCause (D.view disk.old).faults (D.view disk.new).faults result }

@@ -5,7 +5,7 @@ use Rattle.table_descriptors.specs.declared.scopes.Scope.{Scope}
 
 -- a layer of a collection: whose it is, which full backup it belongs to, what it covers, and in which
 -- version of the manifest it is written
-pub record Layer : Type 0 where
+pub record LayerRecord : Type 0 where
   pub collection : List ℕ
   pub cluster : List ℕ
   pub full : Time

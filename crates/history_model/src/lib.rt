@@ -1,4 +1,5 @@
-//! Histories of databases and tables: definitions alone, which the machine and the jobs cite.
+//! Histories of databases and tables: the definitions that the machine and the jobs cite, and a law
+//! about keys that come twice.
 #![tactic(auto)]
 
 mod laws;

@@ -10,7 +10,7 @@ use Rattle.layer_model.specs.declared.names.ObjectName.{ObjectName}
 use Rattle.layer_model.specs.declared.names.Part.{Part}
 use Rattle.layer_model.specs.declared.names.Part.TheVariants.{Gate, Manifest, Chunk, Mark}
 use Rattle.layer_model.specs.Names.{IsLayerName, IsNumbered, object_name, read_name}
-use Rattle.layer_model.specs.Layers.{Has, IsLayer, IsOpen, IsOutside, IsPartName, IsSafe, Layer, name_of}
+use Rattle.layer_model.specs.Layers.{HasPart, IsLayer, IsOpen, IsOutside, IsPartName, IsSafe, LayerObjects, name_of_part}
 use Rattle.layer_model.specs.Stands.{EmptyStands, IsLocal, IsOpenName, IsProper, LawOfOneLayer, Setting, StandsBy}
 use Rattle.layer_model.proofs.NameLaws.{name-only, names-differ}
 use Rattle.layer_model.proofs.LayerLaws.{has_or, part_is_numbered}
@@ -23,14 +23,14 @@ one_object m n p q hm hn hp hq e =
     (ap (λ (o : ObjectName). o.layer) same, ap (λ (o : ObjectName). o.part) same)
 
 -- names of one layer, or of different ones: their gates tell
-layer_cases : (m n : LayerName) → IsLayerName m → IsLayerName n → (m ≡ n) ⊎ (m ≢ n)
+pub layer_cases : (m n : LayerName) → IsLayerName m → IsLayerName n → (m ≡ n) ⊎ (m ≢ n)
 layer_cases m n hm hn = ⊎_elim
     (λ (same : object_name m Gate ≡ object_name n Gate). inl (one_object m n Gate Gate hm hn tt tt same).0)
     (λ (other : object_name m Gate ≢ object_name n Gate). inr (λ e. other (ap (λ k. object_name k Gate) e)))
     (name_cases (object_name m Gate) (object_name n Gate))
 
 -- no part of another layer is one of this layer
-other_outside : (w : Layer) → IsLayer w → IsLayerName w.name → (n : LayerName) → IsLayerName n → n ≢ w.name → (part : Part) → IsNumbered part → IsOutside w (object_name n part)
+pub other_outside : (w : LayerObjects) → IsLayer w → IsLayerName w.name → (n : LayerName) → IsLayerName n → n ≢ w.name → (part : Part) → IsNumbered part → IsOutside w (object_name n part)
 other_outside w is named n h ne part numbered q has e = ne (one_object n w.name part q h named numbered (part_is_numbered w is q has) e).0
 
 pub safe_is_local : IsLocal IsSafe
@@ -40,7 +40,7 @@ safe_is_local w a b same safe = record {
 }
 
 -- the law, in each sense of safe that is a layer's own
-module _ (Safe : Layer → Objects → Type 0) (local : IsLocal Safe) (s : Setting) (proper : IsProper s) (w : Layer) (among : Contains s.started w) (a b : Objects) (stands : StandsBy Safe s a) (agree : (n : List ℕ) → IsOutside w n → at b n ≡ at a n) where
+module _ (Safe : LayerObjects → Objects → Type 0) (local : IsLocal Safe) (s : Setting) (proper : IsProper s) (w : LayerObjects) (among : Contains s.started w) (a b : Objects) (stands : StandsBy Safe s a) (agree : (n : List ℕ) → IsOutside w n → at b n ≡ at a n) where
   is : IsLayer w
   is = proper.started.layer w among
 
@@ -53,17 +53,17 @@ module _ (Safe : Layer → Objects → Type 0) (local : IsLocal Safe) (s : Setti
   foreign_ne : (n : LayerName) → n.cluster ≢ s.cluster → n ≢ w.name
   foreign_ne n ne e = ne (ap (λ (m : LayerName). m.cluster) e ∙ proper.own w among)
 
-  other_safe : (v : Layer) → Contains s.started v → v.name ≢ w.name → Safe v b
+  other_safe : (v : LayerObjects) → Contains s.started v → v.name ≢ w.name → Safe v b
   other_safe v is_v ne = local v a b (λ part has. other_same v.name (proper.started.name v is_v) ne part (part_is_numbered v (proper.started.layer v is_v) part has)) (stands.safe v is_v)
 
   -- an object whose layer is this one, and which is no part of it, is outside
   same_layer : (n : ObjectName) (text : List ℕ) → read_name text ≡ Some n → n.layer ≡ w.name → IsPartName w text ⊎ IsOutside w text
   same_layer n text read e =
       let spelled = name-only text n read in
-      let is_w : text ≡ name_of w n.part = spelled.1 ∙ ap (λ m. object_name m n.part) e in
+      let is_w : text ≡ name_of_part w n.part = spelled.1 ∙ ap (λ m. object_name m n.part) e in
       ⊎_elim
-      (λ (has : Has w n.part). inl (n.part, has, is_w))
-      (λ (not : ¬ Has w n.part). inr (λ q has same. not (subst (Has w) (sym (one_object w.name w.name n.part q named named spelled.0.part (part_is_numbered w is q has) (sym is_w ∙ same)).1) has)))
+      (λ (has : HasPart w n.part). inl (n.part, has, is_w))
+      (λ (not : ¬ HasPart w n.part). inr (λ q has same. not (subst (HasPart w) (sym (one_object w.name w.name n.part q named named spelled.0.part (part_is_numbered w is q has) (sym is_w ∙ same)).1) has)))
       (has_or w n.part)
 
   part_or : (n : ObjectName) (text : List ℕ) → read_name text ≡ Some n → IsPartName w text ⊎ IsOutside w text
@@ -105,23 +105,23 @@ pub law_of_one_layer : LawOfOneLayer
 law_of_one_layer s proper w among a b stands agree safe finished = stands_still IsSafe safe_is_local s proper w among a b stands agree safe finished
 
 -- An image that is as one that stands but on these names of the layer stands too, where the layer is a finished one, or its gate is none of the names.
-pub stands_as_source : (Safe : Layer → Objects → Type 0) → IsLocal Safe → (F : List ℕ → Type 0) (s : Setting) → IsProper s → (w : Layer) → Contains s.started w → (source image : Objects) → StandsBy Safe s source
-    → ((n : List ℕ) → F n → IsPartName w n) → ((n : List ℕ) → ¬ F n → at image n ≡ at source n) → Safe w image → Contains s.finished w ⊎ (¬ F (name_of w Gate)) → StandsBy Safe s image
+pub stands_as_source : (Safe : LayerObjects → Objects → Type 0) → IsLocal Safe → (F : List ℕ → Type 0) (s : Setting) → IsProper s → (w : LayerObjects) → Contains s.started w → (source image : Objects) → StandsBy Safe s source
+    → ((n : List ℕ) → F n → IsPartName w n) → ((n : List ℕ) → ¬ F n → at image n ≡ at source n) → Safe w image → Contains s.finished w ⊎ (¬ F (name_of_part w Gate)) → StandsBy Safe s image
 stands_as_source Safe local F s proper w among source image stands within elsewhere safe gate =
     stands_still Safe local s proper w among source image stands
     (λ n out. elsewhere n (λ f. let p = within n f in out p.0 p.1 p.2))
     safe
     (λ is_open. ⊎_elim
     (λ (done : Contains s.finished w). done)
-    (λ (alone : ¬ F (name_of w Gate)).
-    let found = stands.finished w.name (proper.started.name w among) (proper.own w among) (sym (elsewhere (name_of w Gate) alone) ∙ is_open) in
+    (λ (alone : ¬ F (name_of_part w Gate)).
+    let found = stands.finished w.name (proper.started.name w among) (proper.own w among) (sym (elsewhere (name_of_part w Gate) alone) ∙ is_open) in
     subst (Contains s.finished) (proper.started.once found.0 w (proper.finished found.0 found.1) among found.2) found.1)
     gate)
 
 no_member : {X : Type 0} (xs : List X) (x : X) → xs ≡ [] → Contains xs x → ⊥
 no_member xs x none h = let short : length xs ≡ 0 = ap length none in absurd (omega (arith, h.1, short))
 
-chunk_there : (w : Layer) (i : ℕ) → i < length w.chunks → (o : Option (List ℕ)) → o ≡ None → o ≡ option_map sha256 (slice_get w.chunks i) → ⊥
+chunk_there : (w : LayerObjects) (i : ℕ) → i < length w.chunks → (o : Option (List ℕ)) → o ≡ None → o ≡ option_map sha256 (slice_get w.chunks i) → ⊥
 chunk_there w i lt o none some = none-some o _ none (some ∙ ap (option_map sha256) (slice_get-get_or w.chunks i [] lt))
 
 pub empty_stands : EmptyStands

@@ -153,6 +153,17 @@ pub record IsObjectName (n : ObjectName) : Type 0 where
   pub layer : IsLayerName n.layer
   pub part : IsNumbered n.part
 
+-- a text is the name of an object
+abbrev pub NamesObject : List ℕ → Type 0
+NamesObject text = (n : ObjectName) × IsObjectName n × (text ≡ object_name n.layer n.part)
+
+-- A text is the name of an object of this cluster.
+pub record IsOwnName (cluster : List ℕ) (text : List ℕ) : Type 0 where
+  pub object : ObjectName
+  pub form : IsObjectName object
+  pub own : object.layer.cluster ≡ cluster
+  pub spelled : text ≡ object_name object.layer object.part
+
 -- a text is the name of this object, or of no object
 abbrev pub IsNameOf : List ℕ → Option ObjectName → Type 0
 IsNameOf text (Some n) = IsObjectName n × (text ≡ object_name n.layer n.part)

@@ -150,14 +150,8 @@ impl MemoryDisk {
         let bytes = Blob::copy_of(self.alloc, bytes)?;
         let call = DiskCall::Put(name.copy(self.alloc)?);
         self.entries.reserve(1)?;
-        note(
-            self.alloc,
-            &mut self.touched,
-            &mut self.calls,
-            name,
-            call,
-            !fails,
-        )?;
+        let (touched, calls) = (&mut self.touched, &mut self.calls);
+        note(self.alloc, touched, calls, name, call, !fails)?;
         if fails {
             return Ok(false);
         }
@@ -170,14 +164,8 @@ impl MemoryDisk {
     {
         let fails = fails_now(&mut self.number, &self.stop, &self.fails);
         let call = DiskCall::Removal(name.copy(self.alloc)?);
-        note(
-            self.alloc,
-            &mut self.touched,
-            &mut self.calls,
-            name,
-            call,
-            !fails,
-        )?;
+        let (touched, calls) = (&mut self.touched, &mut self.calls);
+        note(self.alloc, touched, calls, name, call, !fails)?;
         if fails {
             return Ok(false);
         }

@@ -12,7 +12,10 @@ ghost use Rattle.history_model.specs.RowTests.{first_wrong, wrong_row, key_misfi
 use crate::columns::{cells_of, key_of, wrong_column};
 use crate::values::prove_values_fit;
 use mvcc_keys::Memory;
-use row_codec::{Cell, Datum, Kind, Row, is_of_kind, row_cmp, row_key, row_value};
+use row_codec::{
+    Cell, Datum, Kind, ROW_KEY_BYTES_MAX, ROW_VALUE_BYTES_MAX, Row, is_of_kind, row_cmp, row_key,
+    row_value,
+};
 use std::alloc::Global;
 use std::collections::BTreeSet;
 use table_descriptors::Descriptor;
@@ -91,12 +94,6 @@ pub fn value_bytes(alloc: Global, cells: &[Cell]) -> Result<Vec<u8>, Memory>
     Ok(bytes)
 }
 
-/// The most bytes that the key columns of a row take.
-pub const KEY_COLUMNS_BYTES_MAX: usize = 4096;
-
-/// The most bytes that a row's value takes.
-pub const ROW_VALUE_BYTES_MAX: usize = 32_768;
-
 /// The bytes of a key of table 0 around its columns: the table's id, the index, the column family.
 const KEY_FRAME_BYTES: usize = 3;
 
@@ -105,12 +102,12 @@ fn is_large_key(alloc: Global, kinds: &[Kind], key: &Row) -> Result<bool, Memory
     requires { are_of_kinds kinds.now key.now ≡ true }
     ensures { IfOk result (λ r. r ≡ is_large_key kinds.now key.now) }
 {
-    Ok(key_bytes(alloc, 0, kinds, key)?.as_slice().len() > KEY_COLUMNS_BYTES_MAX + KEY_FRAME_BYTES)
+    Ok(key_bytes(alloc, 0, kinds, key)?.as_slice().len() > ROW_KEY_BYTES_MAX + KEY_FRAME_BYTES)
 }
 
 fn is_large_value(alloc: Global, d: &Descriptor, row: &Row) -> Result<bool, Memory>
     requires { are_cells 0 (cells_in d.now.key_columns d.now.columns row.now) ≡ true }
-    ensures { IfOk result (λ r. r ≡ nat_lt 32768 (length (row_value (cells_in d.now.key_columns d.now.columns row.now)))) }
+    ensures { IfOk result (λ r. r ≡ nat_lt ROW_VALUE_BYTES_MAX (length (row_value (cells_in d.now.key_columns d.now.columns row.now)))) }
 {
     let cells = cells_of(alloc, d, row)?;
     Ok(value_bytes(alloc, &cells)?.as_slice().len() > ROW_VALUE_BYTES_MAX)

@@ -10,7 +10,7 @@ pub enum RowsFault {
     /// The place, from 1, of the first value of the wrong type, or NULL in a key; column 0: a wrong
     /// count of values.
     WrongRow { row: usize, column: usize },
-    /// The key columns take more than `KEY_COLUMNS_BYTES_MAX`, or the row's value more than
+    /// The key columns take more than `ROW_KEY_BYTES_MAX`, or the row's value more than
     /// `ROW_VALUE_BYTES_MAX`.
     TooLarge { row: usize },
     /// The row's key came earlier in the list.

@@ -7,6 +7,5 @@ mod faults;
 mod rows;
 mod values;
 
-pub use checks::{KEY_COLUMNS_BYTES_MAX, ROW_VALUE_BYTES_MAX};
 pub use faults::{RowsFault, SelectFault};
 pub use rows::TableRows;

@@ -4,7 +4,7 @@ use Rattle.outside_world.proofs.Runs.{only_put}
 use Rattle.layer_model.specs.declared.names.Part.TheVariants.{Gate, Manifest}
 use Rattle.layer_model.specs.Names.{object_name}
 use Rattle.collection_dir.proofs.Parts.{names_apart, on_ok, through_change, through_sync}
-use Rattle.collection_dir.proofs.OpenGate.{opened, stages}
+use Rattle.collection_dir.proofs.OpenGate.{opened, opens_gate, opens_gate_sync, opens_put, opens_put_sync, stages}
 use Rattle.collection_dir.proofs.finishing.open_gate.Goals as goal
 
 pub returns-in_err-put_part-clause-layer : goal.returns-in_err-put_part-clause-layer
@@ -49,3 +49,15 @@ returns-clause-put g c tells =
     on_ok c.sync-2.result (through_sync manifest (c.put_part-2.ensures.changes.kind.tells ∙ synced) c.sync-2.ensures.settles
     ∙ through_change manifest synced (names_apart layer Manifest Gate tt tt (λ e. cc)) c.put_part-2.ensures.changes
     ∙ through_sync manifest put c.sync.ensures.settles ∙ (c.in_ok-put_part.ensures.changes.content tells).written)
+
+pub returns-in_err-put_part-clause-opens : goal.returns-in_err-put_part-clause-opens
+returns-in_err-put_part-clause-opens g c tells = opens_put c.args.layer.now c.args.bytes.now tells c.put_part.ensures.changes
+
+pub returns-in_err-sync-clause-opens : goal.returns-in_err-sync-clause-opens
+returns-in_err-sync-clause-opens g c tells = opens_put_sync c.args.layer.now c.args.bytes.now tells c.put_part.ensures.changes c.sync.ensures.settles
+
+pub returns-in_err-put_part-2-clause-opens : goal.returns-in_err-put_part-2-clause-opens
+returns-in_err-put_part-2-clause-opens g c tells = opens_gate c.args.layer.now c.args.bytes.now tells c.in_ok-put_part.ensures.changes c.sync.ensures.settles c.put_part-2.ensures.changes
+
+pub returns-clause-opens : goal.returns-clause-opens
+returns-clause-opens g c tells = opens_gate_sync c.args.layer.now c.args.bytes.now tells c.in_ok-put_part.ensures.changes c.sync.ensures.settles c.put_part-2.ensures.changes c.sync-2.ensures.settles

@@ -1,7 +1,7 @@
 use Rattle.std.proofs.Common.{inl, inr, ◌∙◌}
 use Rattle.outside_world.proofs.Runs.{only_less, only_then}
 use Rattle.collection_dir.specs.Footprints.{gate_calls, mark_calls, rest_calls}
-use Rattle.collection_dir.proofs.Removal.{all_gone, gone_from_images, in_turn, then_unchunked, then_unmarked}
+use Rattle.collection_dir.proofs.Removal.{all_gone, gate_gone, gate_gone_on, gone_from_images, in_turn, stays_at_gate, stays_gone, then_unchunked, then_unmarked}
 use Rattle.collection_dir.proofs.Steps.{kept_less}
 use Rattle.collection_dir.proofs.forgetting.forget_layer.Goals as goal
 
@@ -63,3 +63,23 @@ returns-clause-absent_in_images g c tells =
     let unmarked = c.remove_marks.ensures.changes.kind.tells ∙ shut in
     gone_from_images c.args.layer.now c.args.chunks (g.D.Disk.view c.remove_chunks.new.disk) (c.in_ok-remove_chunks.ensures.settled unmarked)
     (all_gone c.args.layer.now c.args.chunks c.requires shut unmarked (c.in_ok-shut_gate.ensures.absent tells) c.remove_marks.ensures.changes (c.in_ok-remove_marks.ensures.absent shut) c.remove_chunks.ensures.changes (c.in_ok-remove_chunks.ensures.absent unmarked) (c.in_ok-remove_chunks.ensures.manifest unmarked))
+
+pub returns-in_err-shut_gate-clause-stays : goal.returns-in_err-shut_gate-clause-stays
+returns-in_err-shut_gate-clause-stays g c tells = stays_at_gate c.args.layer.now tells c.shut_gate.ensures.changes
+
+pub returns-in_err-remove_marks-clause-stays : goal.returns-in_err-remove_marks-clause-stays
+returns-in_err-remove_marks-clause-stays g c tells =
+    let shut = c.shut_gate.ensures.changes.kind.tells ∙ tells in
+    stays_gone c.args.layer.now _ _ (gate_gone c.args.layer.now c.args.chunks c.requires shut (c.in_ok-shut_gate.ensures.absent tells) c.remove_marks.ensures.changes)
+
+pub returns-in_err-remove_chunks-clause-stays : goal.returns-in_err-remove_chunks-clause-stays
+returns-in_err-remove_chunks-clause-stays g c tells =
+    let shut = c.shut_gate.ensures.changes.kind.tells ∙ tells in
+    let unmarked = c.remove_marks.ensures.changes.kind.tells ∙ shut in
+    stays_gone c.args.layer.now _ _ (gate_gone_on c.args.layer.now c.args.chunks c.requires unmarked (gate_gone c.args.layer.now c.args.chunks c.requires shut (c.in_ok-shut_gate.ensures.absent tells) c.remove_marks.ensures.changes) c.remove_chunks.ensures.changes)
+
+pub returns-clause-stays : goal.returns-clause-stays
+returns-clause-stays g c tells =
+    let shut = c.shut_gate.ensures.changes.kind.tells ∙ tells in
+    let unmarked = c.remove_marks.ensures.changes.kind.tells ∙ shut in
+    stays_gone c.args.layer.now _ _ (gate_gone_on c.args.layer.now c.args.chunks c.requires unmarked (gate_gone c.args.layer.now c.args.chunks c.requires shut (c.in_ok-shut_gate.ensures.absent tells) c.remove_marks.ensures.changes) c.remove_chunks.ensures.changes)
