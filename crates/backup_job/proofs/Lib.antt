@@ -1,11 +1,8 @@
-pub mod Cutting
 pub mod Remaining
 pub mod Parts
 pub mod Stepping
 pub mod Disks
 pub mod Starts
 pub mod Bare
-pub mod Ordered
-pub mod Keys
 pub mod Whole
-pub mod CutPieces
+pub mod Going

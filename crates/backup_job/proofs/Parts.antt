@@ -1,16 +1,13 @@
 -- The tables of a manifest with more chunks.
-use Rattle.std.proofs.Common.{◌≡◌, ◌∙◌, ℕ, zero, suc, ◌+◌, ◌<◌, ◌≤◌, refl, sym, ap, ap₂, List, [], ◌∷◌, ◌++◌, length, map, set, slice_get, Some, Result, Ok, Err, OnOk, arith}
-use Rattle.std.proofs.lemmas.List.{append_assoc, append-nil, length-append, length-map}
-use Rattle.std.proofs.lemmas.List.Sums.{sum_by-cons}
+use Rattle.std.proofs.Common.{◌≡◌, ◌∙◌, ℕ, zero, suc, ◌<◌, refl, sym, ap, ap₂, List, [], ◌∷◌, ◌++◌, length, map, set, slice_get, Some, Result, Ok, Err, OnOk, arith}
+use Rattle.std.proofs.lemmas.List.{append_assoc, append-nil, length-append}
 use Rattle.mvcc_keys.specs.declared.entries.Entry.{Entry}
 use Rattle.layer_manifest.specs.declared.manifest.ChunkInfo.{ChunkInfo}
 use Rattle.layer_manifest.specs.declared.manifest.TablePart.{TablePart}
-use Rattle.table_descriptors.specs.Fields.{EachAfter}
-use Rattle.layer_manifest.specs.Manifests.{IsNextTable, chunk_count}
-use Rattle.layer_manifest.proofs.Steps.{chunks_more}
-use Rattle.backup_job.specs.Contents.{in_a_row, info_of, with_each, with_pieces}
+use Rattle.layer_manifest.specs.Manifests.{chunk_count}
+use Rattle.layer_objects.specs.Contents.{in_a_row, info_of, with_each, with_pieces}
+use Rattle.layer_objects.proofs.Counts.{count_cons}
 use Rattle.backup_job.specs.Units.{put_front, with_info}
-use Rattle.layer_manifest.proofs.FewChunks.{count_few}
 
 abbrev Pieces : Type 0
 Pieces = List (List Entry)
@@ -41,22 +38,10 @@ with_each-none (t ∷ ts) (ps ∷ tables) e = ap₂ (λ (x : TablePart) (xs : Li
 
 -- ---- numbers
 
-count_cons : (t : TablePart) (ts : List TablePart) → chunk_count (t ∷ ts) ≡ length t.chunks + chunk_count ts
-count_cons t ts = sum_by-cons (λ (x : TablePart). length x.chunks) t ts
-
 pub count_more : (ts : List TablePart) (place : ℕ) (info : ChunkInfo) → place < length ts → chunk_count (with_info place info ts) ≡ suc (chunk_count ts)
 count_more [] place info lt = absurd (omega arith)
 count_more (t ∷ ts) zero info lt = let a = count_cons t ts in let b = count_cons (chunks_in t (t.chunks ++ info ∷ [])) ts in let l = length-append t.chunks (info ∷ []) in let one : length (info ∷ []) ≡ 1 = refl in omega (arith, a, b, l, one)
 count_more (t ∷ ts) (suc place) info lt = let a = count_cons t ts in let b = count_cons t (with_info place info ts) in let r = count_more ts place info (let m : suc place < suc (length ts) = lt in omega arith) in omega (arith, a, b, r)
-
--- the tables with the pieces that are left have as many chunks more
-pub count_each : (ts : List TablePart) (tables : List Pieces) → length tables ≤ length ts → chunk_count (with_each ts tables) ≡ chunk_count ts + length (in_a_row tables)
-count_each [] [] le = refl
-count_each [] (ps ∷ tables) le = absurd (let m : suc (length tables) ≤ 0 = le in omega arith)
-count_each (t ∷ ts) [] le = let z : length (in_a_row []) ≡ 0 = refl in omega (arith, z)
-count_each (t ∷ ts) (ps ∷ tables) le =
-    let a = count_cons t ts in let b = count_cons (with_pieces t ps) (with_each ts tables) in let r = count_each ts tables (let m : suc (length tables) ≤ suc (length ts) = le in omega arith) in
-    let l = length-append t.chunks (map info_of ps) in let k = length-map ps info_of in let j = length-append ps (in_a_row tables) in omega (arith, a, b, r, l, k, j)
 
 -- ---- a chunk more, as a write to a list
 

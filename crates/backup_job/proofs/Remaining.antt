@@ -8,12 +8,13 @@ use Rattle.span_export.specs.declared.cursor.Place.{Place}
 use Rattle.span_export.specs.Pieces.{after_place, cursor_after}
 use Rattle.span_export.proofs.Cuts.{nothing-given, pieces-whole}
 use Rattle.introduced_spans.specs.declared.plans.TablePlan.{TablePlan}
-use Rattle.backup_job.specs.Contents.{chunk_size, cut, in_a_row, pieces_of}
-use Rattle.backup_job.specs.Jobs.{IsReached, entries_in, pieces_after, remaining_from}
+use Rattle.layer_objects.specs.Contents.{chunk_size, cut, in_a_row, pieces_of}
+use Rattle.layer_objects.specs.Contents.{entries_in}
+use Rattle.backup_job.specs.Jobs.{IsReached, pieces_after, remaining_from}
 use Rattle.backup_job.specs.declared.pieces.Piece.{Piece}
 use Rattle.backup_job.specs.Searches.{IsNextAt}
 use Rattle.backup_job.specs.Units.{IsFirst, put_front}
-use Rattle.backup_job.proofs.Cutting.{cut-more, cut-nil, size_pos}
+use Rattle.layer_objects.proofs.Cutting.{cut-more, cut-nil, size_pos}
 use Rattle.list_laws.proofs.Places.{take-none}
 
 abbrev Pieces : Type 0

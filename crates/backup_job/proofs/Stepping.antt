@@ -8,8 +8,8 @@ use Rattle.chunk_file.specs.Chunks.{chunk_bytes}
 use Rattle.layer_manifest.specs.declared.manifest.Manifest.{Manifest}
 use Rattle.layer_manifest.specs.Manifests.{IsProperManifest, chunk_count}
 use Rattle.layer_manifest.specs.ManifestFiles.{manifest_code}
-use Rattle.layer_model.specs.Layers.{Layer}
-use Rattle.backup_job.specs.Contents.{in_a_row, info_of, with_each, with_tables}
+use Rattle.layer_model.specs.Layers.{LayerObjects}
+use Rattle.layer_objects.specs.Contents.{in_a_row, info_of, with_each, with_tables}
 use Rattle.backup_job.specs.Jobs.{Job, IsAbout, IsReached, IsStillKept, MayRun, completed, left, remaining, remaining_from, written}
 use Rattle.introduced_spans.specs.declared.plans.TablePlan.{TablePlan}
 use Rattle.outside_world.specs.Disk.{View, IsKnown, IsImage}
@@ -22,7 +22,8 @@ use Rattle.backup_job.specs.declared.pieces.Piece.{Piece}
 use Rattle.backup_job.specs.Searches.{IsNext}
 use Rattle.backup_job.specs.Units.{Finishes, IsFirst, IsLast, Steps, TakesFirst, UnitWrites, WritesChunk, with_chunk, with_info}
 use Rattle.backup_job.proofs.Disks.{nothing_finished, nothing_written}
-use Rattle.backup_job.proofs.Parts.{count_each, count_more, with_each-first, with_each-none}
+use Rattle.layer_objects.proofs.Counts.{count_each}
+use Rattle.backup_job.proofs.Parts.{count_more, with_each-first, with_each-none}
 use Rattle.layer_manifest.proofs.FewChunks.{count_few}
 use Rattle.backup_job.proofs.Remaining.{length-remaining, row_first}
 
@@ -52,7 +53,7 @@ cons-drop [] ys (suc n) y e = absurd cc
 cons-drop (x ∷ xs) ys zero y e = (let s : x ≡ y = cc in ap Some s, cc, (let l : length (x ∷ xs) ≡ suc (length xs) = refl in omega (arith, l)))
 cons-drop (x ∷ xs) ys (suc n) y e = let r = cons-drop xs ys n y e in (r.0, r.1, (let l : length (x ∷ xs) ≡ suc (length xs) = refl in let m = r.2 in omega (arith, l, m)))
 
-module _ {h : Tables} {job : Job} {w : Layer} (about : IsAbout h job w) where
+module _ {h : Tables} {job : Job} {w : LayerObjects} (about : IsAbout h job w) where
   dropped : (piece : List Entry) (more : List (List Entry)) → left h job ≡ piece ∷ more → drop (written job) w.chunks ≡ chunk_bytes piece ∷ map chunk_bytes more
   dropped piece more is = about.chunks ∙ ap (map chunk_bytes) is
 
@@ -82,7 +83,7 @@ module _ (h : Tables) (old : Job) (place : ℕ) (cursor : Option Place) (piece :
   counts_one : length old.manifest.tables ≡ length old.plans → written (after_piece old place cursor piece) ≡ suc (written old)
   counts_one fits = count_more old.manifest.tables place (info_of piece) (let m = first.within in omega (arith, fits, m))
 
-  pub takes_first : (w : Layer) → length old.manifest.tables ≡ length old.plans → MayRun h old → IsAbout h old w → TakesFirst h w old (with_chunk old place cursor (info_of piece))
+  pub takes_first : (w : LayerObjects) → length old.manifest.tables ≡ length old.plans → MayRun h old → IsAbout h old w → TakesFirst h w old (with_chunk old place cursor (info_of piece))
   takes_first w fits may about = record {
     number = number_fits h old fits piece (left h (after_piece old place cursor piece)) may left_first;
     piece = piece;
@@ -103,17 +104,17 @@ module _ (h : Tables) (old : Job) (place : ℕ) (cursor : Option Place) (piece :
   first_number fits may = number_fits h old fits piece (left h (after_piece old place cursor piece)) may left_first
 
   -- what is promised where chunks are left is promised
-  pub first_writes : {T : Type 0} (w : Layer) (result : Result T DirFault) (a b : View) → WritesChunk w (written old) result a b → UnitWrites h old (left h old) w result a b
+  pub first_writes : {T : Type 0} (w : LayerObjects) (result : Result T DirFault) (a b : View) → WritesChunk w (written old) result a b → UnitWrites h old (left h old) w result a b
   first_writes w result a b writes = subst (λ (l : List (List Entry)). UnitWrites h old l w result a b) (sym left_first) writes
 
-  pub first_within : (w : Layer) → IsAbout h old w → written old < length w.chunks
+  pub first_within : (w : LayerObjects) → IsAbout h old w → written old < length w.chunks
   first_within w about = next_within about piece (left h (after_piece old place cursor piece)) left_first
 
-  pub first_bytes : (w : Layer) → IsAbout h old w → slice_get w.chunks (written old) ≡ Some (chunk_bytes piece)
+  pub first_bytes : (w : LayerObjects) → IsAbout h old w → slice_get w.chunks (written old) ≡ Some (chunk_bytes piece)
   first_bytes w about = next_bytes about piece (left h (after_piece old place cursor piece)) left_first
 
 -- what is promised where none is left is promised
-pub last_writes : {T : Type 0} (h : Tables) (old : Job) (w : Layer) (result : Result T DirFault) (a b : View) → left h old ≡ [] → Finishes w (completed h old) result a b → UnitWrites h old (left h old) w result a b
+pub last_writes : {T : Type 0} (h : Tables) (old : Job) (w : LayerObjects) (result : Result T DirFault) (a b : View) → left h old ≡ [] → Finishes w (completed h old) result a b → UnitWrites h old (left h old) w result a b
 last_writes h old w result a b none finishes = subst (λ (l : List (List Entry)). UnitWrites h old l w result a b) (sym none) finishes
 
 pub is_last : (h : Tables) (old : Job) → left h old ≡ [] → IsLast h old old
@@ -121,16 +122,16 @@ is_last h old none = record { none = none; same = refl; whole = sym (completed-n
 
 -- ---- the answers of a unit
 
-pub step_some : (h : Tables) (w : Layer) (old mid new : Job) (r : Result Progress DirFault) → IfOk r (λ p. p ≡ Running) → OnOk r (new ≡ mid) → TakesFirst h w old mid → IfOk r (Steps h w old new)
+pub step_some : (h : Tables) (w : LayerObjects) (old mid new : Job) (r : Result Progress DirFault) → IfOk r (λ p. p ≡ Running) → OnOk r (new ≡ mid) → TakesFirst h w old mid → IfOk r (Steps h w old new)
 step_some h w old mid new (Ok p) running is takes = subst (Steps h w old new) (sym running) (subst (TakesFirst h w old) (sym is) takes)
 step_some h w old mid new (Err e) running is takes = tt
 
-pub step_none : (h : Tables) (w : Layer) (old new : Job) (r : Result Progress DirFault) → IfOk r (λ p. p ≡ Done) → new ≡ old → left h old ≡ [] → IfOk r (Steps h w old new)
+pub step_none : (h : Tables) (w : LayerObjects) (old new : Job) (r : Result Progress DirFault) → IfOk r (λ p. p ≡ Done) → new ≡ old → left h old ≡ [] → IfOk r (Steps h w old new)
 step_none h w old new (Ok p) done is none = subst (Steps h w old new) (sym done) (subst (IsLast h old) (sym is) (is_last h old none))
 step_none h w old new (Err e) done is none = tt
 
 -- where nothing was touched nothing is broken
-pub untouched_unit : (T : Type 0) (h : Tables) (job : Job) (w : Layer) (v : View) → (IsKnown v → (image : Objects) → v.left_since v.moment image → IsImage v image) → UnitWrites {T = T} h job (left h job) w (Err Memory) v v
+pub untouched_unit : (T : Type 0) (h : Tables) (job : Job) (w : LayerObjects) (v : View) → (IsKnown v → (image : Objects) → v.left_since v.moment image → IsImage v image) → UnitWrites {T = T} h job (left h job) w (Err Memory) v v
 untouched_unit T h job w v only = by (left h job)
   where
     by : (pieces : List (List Entry)) → UnitWrites {T = T} h job pieces w (Err Memory) v v
@@ -157,7 +158,7 @@ module _ (h : Tables) (inside job : Job) (plans : List TablePlan) (next : Option
 pub fits_here : (inside job : Job) → inside ≡ job → length inside.manifest.tables ≡ length inside.plans → length job.manifest.tables ≡ length job.plans
 fits_here inside job same fits = subst (λ (j : Job). length j.manifest.tables ≡ length j.plans) same fits
 
-pub none_finishes : {T : Type 0} (h : Tables) (job : Job) (w : Layer) (r : Result T DirFault) (a b : View) → left h job ≡ [] → IsAbout h job w → (w.name ≡ job.name → w.manifest ≡ manifest_code job.manifest → Finishes w job.manifest r a b) → UnitWrites h job (left h job) w r a b
+pub none_finishes : {T : Type 0} (h : Tables) (job : Job) (w : LayerObjects) (r : Result T DirFault) (a b : View) → left h job ≡ [] → IsAbout h job w → (w.name ≡ job.name → w.manifest ≡ manifest_code job.manifest → Finishes w job.manifest r a b) → UnitWrites h job (left h job) w r a b
 none_finishes h job w r a b none about finishes =
     let same = completed-none h job none in
     last_writes h job w r a b none (subst (λ (m : Manifest). Finishes w m r a b) (sym same) (finishes about.name (about.manifest ∙ ap manifest_code same)))

@@ -1,5 +1,5 @@
 -- A backup as a job: what it wrote, and what it has still to write.
-use Rattle.std.specs.Prelude.{◌≡◌, ℕ, zero, suc, ◌<◌, ◌≤◌, ◌^◌, true, Bool, List, [], ◌∷◌, ◌++◌, length, map, drop, slice_get, Option, Some, None}
+use Rattle.std.specs.Prelude.{◌≡◌, ℕ, zero, suc, ◌≤◌, true, Bool, List, [], ◌∷◌, ◌++◌, length, map, drop, slice_get, Option, Some, None}
 use Rattle.std.specs.List.{AllByRecursion}
 use Rattle.mvcc_keys.specs.Times.{time_le}
 use Rattle.mvcc_keys.specs.declared.entries.Entry.{Entry}
@@ -7,19 +7,17 @@ use Rattle.table_descriptors.specs.declared.scopes.Scope.{Scope}
 use Rattle.schema_catalog.specs.Catalogs.{Schemas}
 use Rattle.version_store.specs.Tables.{Tables}
 use Rattle.span_export.specs.declared.cursor.Place.{Place}
-use Rattle.span_export.specs.Plans.{plan_entries, start_of}
+use Rattle.span_export.specs.Plans.{start_of}
 use Rattle.span_export.specs.Pieces.{after_place}
 use Rattle.introduced_spans.specs.declared.plans.LayerPlan.{LayerPlan}
 use Rattle.introduced_spans.specs.declared.plans.TablePlan.{TablePlan}
-use Rattle.row_codec.specs.declared.rows.Kind.{Kind}
-use Rattle.chunk_file.specs.Chunks.{IsChunk, chunk_bytes}
-use Rattle.chunk_file.specs.Entries.{IsStored, is_entry}
+use Rattle.chunk_file.specs.Chunks.{chunk_bytes}
 use Rattle.layer_manifest.specs.declared.manifest.Manifest.{Manifest}
-use Rattle.layer_manifest.specs.Manifests.{IsProperChunk, IsProperManifest, chunk_count}
+use Rattle.layer_manifest.specs.Manifests.{IsProperManifest, chunk_count}
 use Rattle.layer_manifest.specs.ManifestFiles.{manifest_code}
 use Rattle.layer_model.specs.declared.names.LayerName.{LayerName}
-use Rattle.layer_model.specs.Layers.{Layer}
-use Rattle.backup_job.specs.Contents.{bare_manifest, chunk_size, cut, in_a_row, info_of, layer_of, pieces_of, with_each, with_tables}
+use Rattle.layer_model.specs.Layers.{LayerObjects}
+use Rattle.layer_objects.specs.Contents.{bare_manifest, chunk_size, cut, entries_in, in_a_row, layer_of, pieces_of, with_each, with_tables}
 
 -- the layer's name, the plans of its tables, the place of the table of which entries are written now, the cursor in it, and the manifest
 -- with the chunks so far
@@ -35,10 +33,6 @@ abbrev pub started : LayerName → Bool → Scope → LayerPlan → Schemas → 
 started name history scope plan catalog = record { name = name; plans = plan.tables; place = 0; cursor = None; manifest = bare_manifest name history scope plan catalog }
 
 -- ---- what is left
-
--- the entries of a table
-abbrev pub entries_in : Tables → TablePlan → List Entry
-entries_in h plan = plan_entries h plan.id plan.plan
 
 -- the pieces of a table's entries after a cursor
 abbrev pub pieces_after : Tables → Option Place → TablePlan → List (List Entry)
@@ -90,14 +84,14 @@ pub record IsSameJob (h : Tables) (old new : Job) : Type 0 where
 
 -- The job writes this layer over these facts: the layer has its name and its manifest once it is complete, and the chunks from the next
 -- number on are those that are left.
-pub record IsAbout (h : Tables) (job : Job) (w : Layer) : Type 0 where
+pub record IsAbout (h : Tables) (job : Job) (w : LayerObjects) : Type 0 where
   pub name : w.name ≡ job.name
   pub manifest : w.manifest ≡ manifest_code (completed h job)
   pub within : written job ≤ length w.chunks
   pub chunks : drop (written job) w.chunks ≡ map chunk_bytes (left h job)
 
 -- the layer that a job is about which wrote nothing yet
-abbrev pub layer_to_write : Tables → Job → Layer
+abbrev pub layer_to_write : Tables → Job → LayerObjects
 layer_to_write h job = layer_of job.name (completed h job) (left h job)
 
 -- A job that is started over a proper manifest may run, and is about its layer.
@@ -105,13 +99,3 @@ abbrev pub StartedJobsRun : Type 0
 StartedJobsRun = (h : Tables) (name : LayerName) (history : Bool) (scope : Scope) (plan : LayerPlan) (catalog : Schemas)
     → AllByRecursion (IsStillKept h) plan.tables → IsProperManifest (completed h (started name history scope plan catalog))
     → MayRun h (started name history scope plan catalog) × IsAbout h (started name history scope plan catalog) (layer_to_write h (started name history scope plan catalog))
-
--- ---- chunks of tables
-
--- Where the entries of a plan are entries of a table with key columns of these kinds, its pieces are chunks of the table.
-abbrev pub PiecesAreChunks : Type 0
-PiecesAreChunks = (h : Tables) (kinds : List Kind) (plan : TablePlan) → AllByRecursion (λ (e : Entry). is_entry plan.id kinds e ≡ true) (entries_in h plan) → AllByRecursion (IsChunk plan.id kinds) (pieces_of h plan)
-
--- What a manifest tells of a chunk of a table, whose bytes have a length of 64 bits, is proper in version 2.
-abbrev pub InfosAreProper : Type 0
-InfosAreProper = (table : ℕ) (kinds : List Kind) (piece : List Entry) → IsChunk table kinds piece → AllByRecursion IsStored piece → length (chunk_bytes piece) < 2 ^ 64 → IsProperChunk 2 table kinds (info_of piece)

@@ -1,6 +1,5 @@
-pub mod Contents
 pub mod Jobs
 pub mod Units
 pub mod Searches
 pub mod Whole
-pub mod CutLaws
+pub mod Records

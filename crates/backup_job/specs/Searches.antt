@@ -5,7 +5,7 @@ use Rattle.version_store.specs.Tables.{Tables}
 use Rattle.span_export.specs.declared.cursor.Place.{Place}
 use Rattle.introduced_spans.specs.declared.plans.TablePlan.{TablePlan}
 use Rattle.backup_job.specs.declared.pieces.Piece.{Piece}
-use Rattle.backup_job.specs.Contents.{in_a_row}
+use Rattle.layer_objects.specs.Contents.{in_a_row}
 use Rattle.backup_job.specs.Jobs.{remaining_from}
 use Rattle.backup_job.specs.Units.{IsFirst}
 

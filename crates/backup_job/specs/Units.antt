@@ -13,8 +13,8 @@ use Rattle.layer_manifest.specs.declared.manifest.Manifest.{Manifest}
 use Rattle.layer_model.specs.declared.names.LayerName.{LayerName}
 use Rattle.layer_model.specs.declared.names.Part.{Part}
 use Rattle.layer_model.specs.declared.names.Part.TheVariants as part
-use Rattle.layer_model.specs.Layers.{Layer, Holds, IsMarked, IsOpen, name_of}
-use Rattle.layer_model.specs.Names.{object_name}
+use Rattle.layer_model.specs.Layers.{LayerObjects, Holds, IsMarked, IsOpen, IsWhole, name_of_part}
+use Rattle.layer_model.specs.Names.{IsNumbered, object_name}
 use Rattle.collection_dir.specs.declared.fault.DirFault.{DirFault}
 use Rattle.collection_dir.specs.Faults.{IsDiskFault}
 use Rattle.collection_dir.specs.Finishing.{DiffersOnlyOver, IsFinishFault, IsManifestOf}
@@ -49,7 +49,7 @@ pub record IsFirst (h : Tables) (plans : List TablePlan) (tables : List (List (L
   pub reached : IsReached h place cursor plans
 
 -- a unit wrote the first of the chunks that were left, its number has six digits, and the layer that the job makes is the same
-pub record TakesFirst (h : Tables) (w : Layer) (old new : Job) : Type 0 where
+pub record TakesFirst (h : Tables) (w : LayerObjects) (old new : Job) : Type 0 where
   pub number : written old < 1000000
   pub piece : List Entry
   pub takes : left h old ≡ piece ∷ left h new
@@ -65,7 +65,7 @@ pub record IsLast (h : Tables) (old new : Job) : Type 0 where
   pub whole : new.manifest ≡ completed h old
 
 -- Running where a chunk was left, Done where none was
-abbrev pub Steps : Tables → Layer → Job → Job → Progress → Type 0
+abbrev pub Steps : Tables → LayerObjects → Job → Job → Progress → Type 0
 Steps h w old new Running = TakesFirst h w old new
 Steps h w old new Done = IsLast h old new
 
@@ -73,27 +73,30 @@ Steps h w old new Done = IsLast h old new
 
 -- the names of a layer's objects
 abbrev pub AtLayer : LayerName → List ℕ → Type 0
-AtLayer name n = (p : Part) × (n ≡ object_name name p)
+AtLayer name n = (p : Part) × IsNumbered p × (n ≡ object_name name p)
 
 -- The disk after a unit that was to write chunk i of a layer: where the layer was safe it is so in each image at each moment, and at Ok
 -- the chunk is there in each image. A chunk that is marked isn't put again.
-pub record WritesChunk {T : Type 0} (w : Layer) (i : ℕ) (result : Result T DirFault) (old new : View) : Type 0 where
-  pub layer : (older : List ℕ) → MayBegin w older w.name old → old.touched (name_of w (part.Mark i)) ≡ false → LeavesOnly old new (IsKept (AtChunk w.name i) w older old)
-  pub stored : (older : List ℕ) → MayBegin w older w.name old → old.touched (name_of w (part.Mark i)) ≡ false → OnOk result (InEachImage new (Holds w (part.Chunk i)))
+pub record WritesChunk {T : Type 0} (w : LayerObjects) (i : ℕ) (result : Result T DirFault) (old new : View) : Type 0 where
+  pub layer : (older : List ℕ) → MayBegin w older w.name old → old.touched (name_of_part w (part.Mark i)) ≡ false → LeavesOnly old new (IsKept (AtChunk w.name i) w older old)
+  pub stored : (older : List ℕ) → MayBegin w older w.name old → old.touched (name_of_part w (part.Mark i)) ≡ false → OnOk result (InEachImage new (Holds w (part.Chunk i)))
   pub calls : Tells old → OnOk result ((wrote : Bool) × (IsTrue wrote ↔ (¬ IsMarked w i old.objects)) × (new.calls ≡ old.calls ++ chunk_calls w.name i wrote))
   pub put : Tells old → ¬ IsMarked w i old.objects → OnOk result (Holds w (part.Chunk i) new.objects)
   pub same : Tells old → IsMarked w i old.objects → IsSameContent old new
   pub marked : Tells old → OnOk result (IsMarked w i new.objects)
-  pub settled : Tells old → OnOk result ((n : List ℕ) → n ≢ name_of w (part.Mark i) → old.touched n ≡ false → new.touched n ≡ false)
+  pub settled : Tells old → OnOk result ((n : List ℕ) → n ≢ name_of_part w (part.Mark i) → old.touched n ≡ false → new.touched n ≡ false)
   pub changes : ChangesOnly (AtChunk w.name i) NoName old new
   pub fault : IfErr result IsDiskFault
 
 -- The disk after a unit that was to finish a layer: where the layer was safe, with all chunks and marks there, it is safe in each image at
--- each moment, and at Ok it is whole in each image. One that was open over its manifest, in either version, is as it was.
-pub record Finishes {T : Type 0} (w : Layer) (m : Manifest) (result : Result T DirFault) (old new : View) : Type 0 where
+-- each moment, and at Ok it is whole in each image. One that was open over its manifest, in either version, is as it was; one that wasn't
+-- has its own manifest wherever its gate is open.
+pub record Finishes {T : Type 0} (w : LayerObjects) (m : Manifest) (result : Result T DirFault) (old new : View) : Type 0 where
   pub layer : (older : List ℕ) → MayFinish w older w.name w.manifest old → LeavesOnly old new (IsKept (AtFinish w.name) w older old)
   pub whole : (older : List ℕ) → MayFinish w older w.name w.manifest old → OnOk result (InEachImage new (IsWholeInEither w older))
-  pub finished : Tells old → OnOk result (IsOpen w old.objects → IsManifestOf m (at old.objects (name_of w part.Manifest)))
+  pub fresh : (older : List ℕ) → MayFinish w older w.name w.manifest old → ¬ IsOpen w old.objects → OnOk result (InEachImage new (IsWhole w))
+  pub opens : Tells old → ¬ IsOpen w old.objects → IsOpen w new.objects → Holds w part.Manifest new.objects
+  pub finished : Tells old → OnOk result (IsOpen w old.objects → IsManifestOf m (at old.objects (name_of_part w part.Manifest)))
   pub same : Tells old → IsOpen w old.objects → IsSameContent old new
   pub calls : Tells old → ¬ IsOpen w old.objects → OnOk result (new.calls ≡ old.calls ++ finish_calls w.name)
   pub put : Tells old → ¬ IsOpen w old.objects → OnOk result (Holds w part.Manifest new.objects)
@@ -104,6 +107,6 @@ pub record Finishes {T : Type 0} (w : Layer) (m : Manifest) (result : Result T D
   pub fault : IfErr result (IsFinishFault w.name m)
 
 -- the one where chunks are left, and otherwise the other
-abbrev pub UnitWrites : {T : Type 0} → Tables → Job → List (List Entry) → Layer → Result T DirFault → View → View → Type 0
+abbrev pub UnitWrites : {T : Type 0} → Tables → Job → List (List Entry) → LayerObjects → Result T DirFault → View → View → Type 0
 UnitWrites h job [] w result old new = Finishes w (completed h job) result old new
 UnitWrites h job (piece ∷ more) w result old new = WritesChunk w (written job) result old new

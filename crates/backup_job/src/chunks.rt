@@ -3,7 +3,7 @@ ghost use Rattle.std.specs.Prelude.{◌≡◌, ◌≤◌, ◌++◌, ◌∷◌, [
 ghost use Rattle.sha2.specs.Sha256.{sha256};
 ghost use Rattle.chunk_file.specs.Chunks.{chunk_bytes};
 ghost use Rattle.mvcc_keys.specs.Entries.{key_of, end_of};
-ghost use Rattle.backup_job.specs.Contents.{bounds_of, chunk_size, greater, greatest_key, info_of, least_key, lesser};
+ghost use Rattle.layer_objects.specs.Contents.{bounds_of, chunk_size, greater, greatest_key, info_of, least_key, lesser};
 
 use chunk_file::write_chunk_bytes;
 use layer_manifest::ChunkInfo;
@@ -12,7 +12,7 @@ use sha2::{Digest, Sha256};
 use std::alloc::Global;
 
 /// How many entries a chunk has at most.
-#[tactic(auto, unfolding(crate::specs::Contents::chunk_size))]
+#[tactic(auto, unfolding(layer_objects::specs::Contents::chunk_size))]
 pub fn chunk_size() -> usize
     ensures size { result ≡ chunk_size }
     ensures few { result ≡ 256 }
@@ -74,7 +74,7 @@ fn bounds_of(alloc: Global, entries: &[Entry]) -> Result<Option<(Blob, Blob)>, M
 }
 
 /// What the manifest tells of a chunk.
-#[tactic(auto, unfolding(crate::specs::Contents::info_of))]
+#[tactic(auto, unfolding(layer_objects::specs::Contents::info_of))]
 fn info_of(alloc: Global, entries: &[Entry], bytes: &[u8]) -> Result<ChunkInfo, Memory>
     requires few { length entries.now ≤ 256 }
     requires spelled { bytes.now ≡ chunk_bytes entries.now }

@@ -5,13 +5,13 @@ ghost use Rattle.table_descriptors.specs.Descriptors.{IsProperSchema};
 ghost use Rattle.version_store.specs.Tables.{Tables};
 ghost use Rattle.outside_world.specs.Moments.{ChangesOnly, NoName};
 ghost use Rattle.layer_manifest.specs.declared.manifest.TablePart.{TablePart};
-ghost use Rattle.layer_model.specs.Layers.{Layer};
+ghost use Rattle.layer_model.specs.Layers.{LayerObjects};
 ghost use Rattle.layer_model.specs.Stands.{Setting};
 ghost use Rattle.collection_dir.specs.Faults.{DirHasCause};
 ghost use Rattle.collection_dir.specs.Finishing.{IsFinishFault};
 ghost use Rattle.backup_job.specs.Jobs.{IsAbout, IsSameJob, MayRun, completed, left, started};
 ghost use Rattle.backup_job.specs.Units.{AtLayer, Steps, UnitWrites};
-ghost use Rattle.backup_job.specs.Whole.{IsAmong, IsWriting, RunWrites};
+ghost use Rattle.backup_job.specs.Whole.{IsAmong, IsAsked, IsWriting, RunWrites, UnitLeaves};
 
 use crate::pieces::next_piece;
 use crate::starting::bare_manifest;
@@ -106,10 +106,12 @@ impl BackupJob {
         disk: &mut D,
     ) -> Result<Progress, DirFault>
         requires { (h : Tables) × V.stands store.now h × MayRun h self.old }
-        ensures step { (h : Tables) → V.stands store.now h → MayRun h self.old → (w : Layer) → IsAbout h self.old w → IfOk result (Steps h w self.old self.new) }
+        ensures step { (h : Tables) → V.stands store.now h → MayRun h self.old → (w : LayerObjects) → IsAbout h self.old w → IfOk result (Steps h w self.old self.new) }
         ensures stays { OnErr result (self.new ≡ self.old) }
-        ensures disk { (h : Tables) → V.stands store.now h → MayRun h self.old → (w : Layer) → IsAbout h self.old w
+        ensures disk { (h : Tables) → V.stands store.now h → MayRun h self.old → (w : LayerObjects) → IsAbout h self.old w
             → UnitWrites h self.old (left h self.old) w result (D.view disk.old) (D.view disk.new) }
+        ensures stands { (h : Tables) → V.stands store.now h → (older : LayerObjects → List ℕ) (s : Setting) (w : LayerObjects) → IsAsked s w (left h self.old) → IsWriting older s w h self.old (D.view disk.old)
+            → UnitLeaves older s w h result self.new (D.view disk.old) (D.view disk.new) }
         ensures changes { ChangesOnly (AtLayer self.old.name) NoName (D.view disk.old) (D.view disk.new) }
         ensures fault { IfErr result (IsFinishFault self.old.name self.old.manifest) }
         ensures cause { DirHasCause (D.view disk.old).faults (D.view disk.new).faults result }
@@ -135,7 +137,7 @@ impl BackupJob {
         requires { (h : Tables) × V.stands store.now h × MayRun h self.old }
         ensures kept { (h : Tables) → V.stands store.now h → MayRun h self.old → IsSameJob h self.old self.new }
         ensures whole { (h : Tables) → V.stands store.now h → MayRun h self.old → OnOk result (self.new.manifest ≡ completed h self.old) }
-        ensures disk { (h : Tables) → V.stands store.now h → (older : Layer → List ℕ) (s : Setting) (w : Layer) → IsAmong s w → IsWriting older s w h self.old (D.view disk.old)
+        ensures disk { (h : Tables) → V.stands store.now h → (older : LayerObjects → List ℕ) (s : Setting) (w : LayerObjects) → IsAmong s w → IsWriting older s w h self.old (D.view disk.old)
             → RunWrites older s w (completed h self.old) result self.new (D.view disk.old) (D.view disk.new) }
         ensures changes { ChangesOnly (AtLayer self.old.name) NoName (D.view disk.old) (D.view disk.new) }
         ensures fault { IfErr result (IsFinishFault self.old.name self.new.manifest) }

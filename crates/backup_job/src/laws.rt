@@ -1,6 +1,6 @@
 //! What holds of every job.
-ghost use Rattle.backup_job.specs.CutLaws.{EntriesAreCut};
-ghost use Rattle.backup_job.specs.Jobs.{InfosAreProper, PiecesAreChunks, StartedJobsRun};
+ghost use Rattle.backup_job.specs.Jobs.{StartedJobsRun};
+ghost use Rattle.backup_job.specs.Records.{JobsGoOn, JobsWriteLayers};
 
 /// A law: a job that was started, and of which the manifest will be proper, may run, and is about
 /// the layer that has this manifest and all pieces of its tables.
@@ -8,17 +8,14 @@ pub fn started_jobs_run()
     ensures { StartedJobsRun }
 {}
 
-/// A law: the pieces of a plan whose entries are a table's are chunks of the table.
-pub fn pieces_are_chunks()
-    ensures { PiecesAreChunks }
+/// A law: a job writes the layer of each record that may be written, as long as what it exports is
+/// still kept.
+pub fn jobs_write_layers()
+    ensures { JobsWriteLayers }
 {}
 
-/// A law: what a manifest tells of such a chunk is what a manifest of version 2 may tell.
-pub fn infos_are_proper()
-    ensures { InfosAreProper }
-{}
-
-/// A law: entries are cut into pieces of 256, the last of which may have fewer.
-pub fn entries_are_cut()
-    ensures { EntriesAreCut }
+/// A law: while other facts are added, or some are collected, a job that is under way goes on and
+/// writes the same, as long as its tables give the same entries and what it exports is still kept.
+pub fn jobs_go_on()
+    ensures { JobsGoOn }
 {}

@@ -9,4 +9,4 @@ mod starting;
 mod writing;
 
 pub use job::{BackupJob, Progress};
-pub use laws::{entries_are_cut, infos_are_proper, pieces_are_chunks, started_jobs_run};
+pub use laws::{jobs_go_on, jobs_write_layers, started_jobs_run};

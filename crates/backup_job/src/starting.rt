@@ -6,41 +6,23 @@ ghost use Rattle.range_tombstones.specs.declared.upto.Upto.TheVariants.{At};
 ghost use Rattle.range_tombstones.specs.Intervals.{is_between};
 ghost use Rattle.history_model.specs.Histories.{in_force};
 ghost use Rattle.schema_catalog.specs.Catalogs.{history_of};
-ghost use Rattle.backup_job.specs.Contents.{AreProper, bare_manifest, part_of};
+ghost use Rattle.layer_objects.specs.Contents.{AreProper, bare_manifest, part_of};
 ghost use Rattle.introduced_spans.specs.Spans.{layer_descriptors};
 
 use introduced_spans::{LayerPlan, TablePlan};
 use layer_manifest::{Manifest, TablePart};
 use layer_model::LayerName;
 use mvcc_keys::{Hlc, Items, Memory};
-use row_codec::RowFault;
 use schema_catalog::Catalog;
 use std::alloc::Global;
-use table_descriptors::{
-    Descriptor, Scope, descriptors_are_exact, read_descriptor, write_descriptor,
-};
-
-/// A descriptor is written and read again, since its fields are its own crate's.
-fn copy_descriptor(alloc: Global, d: &Descriptor) -> Result<Descriptor, Memory>
-    ensures same { IfOk result (λ e. e ≡ d.now) }
-    ensures proper { IfOk result (λ e. IsProperSchema e) }
-{
-    d.proper();
-    descriptors_are_exact();
-    let mut bytes = Vec::new(alloc);
-    write_descriptor(d, &mut bytes)?;
-    match read_descriptor(alloc, bytes.as_slice()) {
-        Ok(copy) => Ok(copy),
-        Err(RowFault::Memory) => Err(Memory),
-        Err(RowFault::At { .. }) => unreachable!(),
-    }
-}
+use table_descriptors::{Descriptor, Scope};
 
 fn push_copy(alloc: Global, d: &Descriptor, copies: &mut Vec<Descriptor>) -> Result<(), Memory>
     ensures more { OnOk result (copies.new.items ≡ copies.old.items ++ d.now ∷ []) }
     ensures proper { OnOk result (AllByRecursion IsProperSchema copies.old.items → AllByRecursion IsProperSchema copies.new.items) }
 {
-    let copy = copy_descriptor(alloc, d)?;
+    let copy = d.copy(alloc)?;
+    copy.proper();
     copies.push(copy).map_err(|_| Memory)
 }
 

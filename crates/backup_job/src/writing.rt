@@ -4,11 +4,11 @@ ghost use Rattle.outside_world.specs.Moments.{ChangesOnly, NoName};
 ghost use Rattle.chunk_file.specs.Chunks.{chunk_bytes};
 ghost use Rattle.layer_manifest.specs.ManifestFiles.{manifest_code};
 ghost use Rattle.layer_manifest.specs.Manifests.{IsProperManifest};
-ghost use Rattle.layer_model.specs.Layers.{Layer};
+ghost use Rattle.layer_model.specs.Layers.{LayerObjects};
 ghost use Rattle.collection_dir.specs.Faults.{DirHasCause, IsDiskFault};
 ghost use Rattle.collection_dir.specs.Finishing.{IsFinishFault};
 ghost use Rattle.backup_job.specs.declared.job.Progress.TheVariants.{Done, Running};
-ghost use Rattle.backup_job.specs.Contents.{info_of};
+ghost use Rattle.layer_objects.specs.Contents.{info_of};
 ghost use Rattle.backup_job.specs.Jobs.{written};
 ghost use Rattle.backup_job.specs.Units.{AtLayer, Finishes, WritesChunk, with_chunk, with_info};
 
@@ -62,7 +62,7 @@ impl BackupJob {
         ensures running { IfOk result (λ p. p ≡ Running) }
         ensures ok { OnOk result (self.new ≡ with_chunk self.old piece.place piece.cursor (info_of piece.entries.items)) }
         ensures stays { OnErr result (self.new ≡ self.old) }
-        ensures disk { (w : Layer) → w.name ≡ self.old.name → written self.old < length w.chunks → slice_get w.chunks (written self.old) ≡ Some (chunk_bytes piece.entries.items)
+        ensures disk { (w : LayerObjects) → w.name ≡ self.old.name → written self.old < length w.chunks → slice_get w.chunks (written self.old) ≡ Some (chunk_bytes piece.entries.items)
             → WritesChunk w (written self.old) result (D.view disk.old) (D.view disk.new) }
         ensures changes { ChangesOnly (AtLayer self.old.name) NoName (D.view disk.old) (D.view disk.new) }
         ensures fault { IfErr result IsDiskFault }
@@ -88,7 +88,7 @@ impl BackupJob {
         requires version { self.old.manifest.version ≡ 2 }
         ensures done { IfOk result (λ p. p ≡ Done) }
         ensures stays { self.new ≡ self.old }
-        ensures disk { (w : Layer) → w.name ≡ self.old.name → w.manifest ≡ manifest_code self.old.manifest
+        ensures disk { (w : LayerObjects) → w.name ≡ self.old.name → w.manifest ≡ manifest_code self.old.manifest
             → Finishes w self.old.manifest result (D.view disk.old) (D.view disk.new) }
         ensures changes { ChangesOnly (AtLayer self.old.name) NoName (D.view disk.old) (D.view disk.new) }
         ensures fault { IfErr result (IsFinishFault self.old.name self.old.manifest) }

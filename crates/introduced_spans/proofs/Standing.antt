@@ -27,11 +27,11 @@ table-ids tables s (id ∷ ids) = ap (λ (xs : List ℕ). id ∷ xs) (table-ids 
 range-increasing : (a n : ℕ) → IsStrictlyIncreasing (range_with_len a n)
 range-increasing a n k h = let few : k + 1 < n = subst (λ (m : ℕ). k + 1 < m) (length-range_with_len a n) h in rw (get_or-range_with_len a n k 0 (omega (arith, few)), get_or-range_with_len a n (k + 1) 0 few) (omega arith)
 
-ascending : (tables : List (List Schema)) (scope : Scope) (s : Span) → IsStrictlyIncreasing (map (λ (t : TablePlan). t.id) (plan_over tables scope s).tables)
+pub ascending : (tables : List (List Schema)) (scope : Scope) (s : Span) → IsStrictlyIncreasing (map (λ (t : TablePlan). t.id) (plan_over tables scope s).tables)
 unfolding members_of scope_ids
 ascending tables scope s = subst IsStrictlyIncreasing (sym (table-ids tables s (members_of tables scope s))) (IsStrictlyIncreasing-filter (is_member tables s) (scope_ids tables scope) (IsStrictlyIncreasing-filter (is_in_scope tables scope) (table_ids tables) (range-increasing 100 (length tables))))
 
-listed : (tables : List (List Schema)) (scope : Scope) (s : Span) → AllByRecursion (λ (t : TablePlan). IsListed tables scope t.id) (plan_over tables scope s).tables
+pub listed : (tables : List (List Schema)) (scope : Scope) (s : Span) → AllByRecursion (λ (t : TablePlan). IsListed tables scope t.id) (plan_over tables scope s).tables
 unfolding members_of scope_ids table_plan
 listed tables scope s = all-map (λ (t : TablePlan). IsListed tables scope t.id) (table_plan tables s) (members_of tables scope s) (all-filter (IsListed tables scope) (IsListed tables scope) (is_member tables s) (λ id e h. h) (scope_ids tables scope) (all-filter (λ id. (100 ≤ id) × (id < 100 + length tables)) (IsListed tables scope) (is_in_scope tables scope) (λ id e h. record { first = h.0; there = omega (arith, h.0, h.1); scoped = e }) (table_ids tables) (range-all 100 (length tables))))
 

@@ -39,7 +39,7 @@ past-upto ds e u late = by (public_at ds e) refl (last_end ds e) refl
 
 -- ---- a member was public
 
-some-time : (s e : Time) (ds : List Schema) → ascend_after zero_time ds ≡ true → is_public_in ds s e ≡ true → (x : Time) × (time_le x e ≡ true) × (public_at ds x ≡ true)
+pub some-time : (s e : Time) (ds : List Schema) → ascend_after zero_time ds ≡ true → is_public_in ds s e ≡ true → (x : Time) × (time_le x e ≡ true) × (public_at ds x ≡ true)
 unfolding is_public_in
 some-time s e ds a is = by (is_public_after ds s e) refl is
   where

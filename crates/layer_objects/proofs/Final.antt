@@ -31,15 +31,16 @@ use Rattle.introduced_spans.proofs.Lists.{range-all, all-filter, all-map, map-sa
 use Rattle.introduced_spans.specs.declared.plans.LayerPlan.{LayerPlan}
 use Rattle.introduced_spans.specs.Publicity.{IsUntold}
 use Rattle.introduced_spans.specs.Spans.{layer_descriptors}
-use Rattle.history_model.specs.Layers.{Layer}
+use Rattle.history_model.specs.Layers.{LayerRecord}
 use Rattle.layer_manifest.specs.declared.manifest.TablePart.{TablePart}
 use Rattle.layer_model.specs.Layers as stored
 use Rattle.mvcc_keys.specs.declared.entries.Entry.{Entry}
 use Rattle.table_rows.specs.RowTables.{bytes_of, coded}
 use Rattle.list_laws.proofs.Members.{all-weaker}
 use Rattle.table_rows.proofs.Coded.{date-coded}
-use Rattle.backup_job.specs.Contents.{chunk_size, cut, in_a_row, layer_of, part_of, pieces_of, with_each}
-use Rattle.layer_objects.specs.Objects.{covers, described, kinds_of, name_of, objects_of, plan_of, rows_of, table_kinds}
+use Rattle.layer_manifest.specs.declared.manifest.Manifest.{Manifest}
+use Rattle.layer_objects.specs.Contents.{chunk_size, cut, in_a_row, in_version, layer_of, part_of, pieces_of, with_each}
+use Rattle.layer_objects.specs.Objects.{covers, described, kinds_of, name_of_record, objects_of, plan_of, rows_of, table_kinds}
 use Rattle.layer_objects.specs.Past.{IsLonger, KeepsPast, IsBegun, AreBegun, PastChains, IsFinal, LayersAreFinal}
 use Rattle.introduced_spans.proofs.Longer.{AreAfter, public-longer, became-longer, member-longer, plan-longer, descriptors-longer}
 use Rattle.introduced_spans.proofs.Untold.{unseen}
@@ -352,11 +353,15 @@ module _ (t : Time) (old new : List Table) (begun : AreBegun old) (past : KeepsP
 
 -- ---- a layer
 
--- a layer from the parts of its manifest and the pieces of its tables
-abbrev made : Layer → List TablePart → List (List (List Entry)) → stored.Layer
-made r parts pieces = layer_of (name_of r) (record { cluster = r.cluster; job = r.job; full = r.full; start = r.start; end = r.end; floor = r.floor; history = r.history; scope = r.scope; tables = with_each parts pieces; version = 2 }) (in_a_row pieces)
+-- a manifest from its parts and the pieces of its tables
+abbrev told-by : LayerRecord → List TablePart → List (List (List Entry)) → Manifest
+told-by r parts pieces = in_version r.version (record { cluster = r.cluster; job = r.job; full = r.full; start = r.start; end = r.end; floor = r.floor; history = r.history; scope = r.scope; tables = with_each parts pieces; version = 2 })
 
-module _ (t : Time) (old new : List Table) (r : Layer) (begun : AreBegun old) (past : KeepsPast t old new) (span : time_le r.floor r.end ≡ true) (le : time_le r.end t ≡ true) where
+-- a layer from the same
+abbrev made : LayerRecord → List TablePart → List (List (List Entry)) → stored.LayerObjects
+made r parts pieces = layer_of (name_of_record r) (told-by r parts pieces) (in_a_row pieces)
+
+module _ (t : Time) (old new : List Table) (r : LayerRecord) (begun : AreBegun old) (past : KeepsPast t old new) (span : time_le r.floor r.end ≡ true) (le : time_le r.end t ≡ true) where
   abbrev plans : List TablePlan
   plans = (plan_over (schemas_of old) r.scope (covers r)).tables
 
@@ -383,6 +388,8 @@ module _ (t : Time) (old new : List Table) (r : Layer) (begun : AreBegun old) (p
     plan = same;
     entries = all-weaker _ _ (λ p is. is.entries) plans told-all;
     bare = ap (λ (ps : List TablePart). record { cluster = r.cluster; job = r.job; full = r.full; start = r.start; end = r.end; floor = r.floor; history = r.history; scope = r.scope; tables = ps; version = 2 }) all-parts;
+    manifest = ap (λ (ps : List TablePart). told-by r ps (map (pieces_of (bytes_of (rows_of new))) (plan_over (schemas_of new) r.scope (covers r)).tables)) all-parts
+        ∙ ap (told-by r (map (part_of (described old) r.history r.floor r.end) plans)) all-pieces;
     objects = ap (λ (ps : List TablePart). made r ps (map (pieces_of (bytes_of (rows_of new))) (plan_over (schemas_of new) r.scope (covers r)).tables)) all-parts
         ∙ ap (made r (map (part_of (described old) r.history r.floor r.end) plans)) all-pieces;
   }

@@ -1,3 +1,10 @@
+pub mod Cutting
+pub mod CutPieces
+pub mod Ordered
+pub mod Keys
+pub mod Counts
+pub mod Planned
+pub mod Listing
 pub mod Final
 pub mod Sizes
 pub mod Writable

@@ -1,10 +1,16 @@
--- The name of a layer's objects.
+-- The name and the manifest of a layer's objects.
 use Rattle.std.proofs.Common.{◌≡◌, refl, List}
 use Rattle.history_model.specs.Histories.{Table}
-use Rattle.history_model.specs.Layers.{Layer}
-use Rattle.layer_objects.specs.Objects.{name_of, objects_of}
+use Rattle.history_model.specs.Layers.{LayerRecord}
+use Rattle.layer_manifest.specs.ManifestFiles.{manifest_code}
+use Rattle.layer_objects.specs.Objects.{manifest_of, name_of_record, objects_of}
 
--- it is that of the layer's record
-pub objects-name : (tables : List Table) (r : Layer) → (objects_of tables r).name ≡ name_of r
+-- the name is that of the layer's record
+pub objects-name : (tables : List Table) (r : LayerRecord) → (objects_of tables r).name ≡ name_of_record r
 unfolding objects_of
 objects-name tables r = refl
+
+-- the bytes are those of its manifest
+pub objects-manifest : (tables : List Table) (r : LayerRecord) → (objects_of tables r).manifest ≡ manifest_code (manifest_of tables r)
+unfolding objects_of
+objects-manifest tables r = refl

@@ -1,8 +1,8 @@
 -- How many entries and chunks a table has, and how many bytes they take.
-use Rattle.std.proofs.Common.{◌≡◌, ℕ, zero, suc, ◌+◌, ◌*◌, ◌^◌, ◌<◌, ◌≤◌, ◌==◌, true, refl, ap, ◌∙◌, arith, List, [], ◌∷◌, length, drop, Option, Some, None, inl, inr, Ordering, Less, Equal, Greater}
+use Rattle.std.proofs.Common.{◌≡◌, ℕ, zero, suc, ◌+◌, ◌*◌, ◌^◌, ◌<◌, ◌≤◌, ◌==◌, true, refl, ap, ◌∙◌, arith, List, [], ◌∷◌, length, drop, inl, inr}
 use Rattle.std.specs.List.{AllByRecursion}
 use Rattle.std.proofs.lemmas.Bool.{cases_Bool, eq-eqb}
-use Rattle.std.proofs.lemmas.List.{length-append, length-map}
+use Rattle.std.proofs.lemmas.List.{length-append}
 use Rattle.mvcc_keys.specs.Codes.{bytes32, counter_bytes, mvcc_key}
 use Rattle.mvcc_keys.specs.Times.{Time}
 use Rattle.mvcc_keys.specs.declared.entries.Entry.{Entry}
@@ -14,66 +14,23 @@ use Rattle.row_codec.specs.RowValues.{reads, row_value, sized}
 use Rattle.row_codec.proofs.KeyLaws.{row_keys-exact}
 use Rattle.row_codec.proofs.ValueLaws.{row_values-exact}
 use Rattle.table_descriptors.proofs.DescriptorLengths.{number-length}
-use Rattle.fact_model.specs.Facts.{Del, DelRange, Fact, Put, Version, value}
-use Rattle.fact_model.specs.Ordered.{by_order, insert_by, ordered}
-use Rattle.fact_model.specs.Scans.{image, items, keys_put, put_of, scan, with_item}
+use Rattle.fact_model.specs.Facts.{Del, DelRange, Put}
 use Rattle.history_model.specs.Rows.{Cells, Key, RowFact}
 use Rattle.history_model.specs.RowTests.{columns_len}
 use Rattle.version_store.specs.Tables.{entry_of}
 use Rattle.table_rows.specs.RowTables.{IsCells, IsRowFact, coded}
 use Rattle.table_rows.proofs.KeySizes.{key-len}
 use Rattle.chunk_file.specs.Chunks.{chunk_bytes, head_code}
-use Rattle.chunk_file.specs.Entries.{IsStored, entries_code, entry_code, is_entry}
+use Rattle.chunk_file.specs.Entries.{IsStored, entries_code, entry_code, is_entry, is_row_key}
+use Rattle.std.specs.Ordering.{is_lt}
+use Rattle.table_rows.proofs.Coded.{keys-ordered}
 use Rattle.chunk_file.proofs.EntryLaws.{mvcc-length}
-use Rattle.backup_job.specs.Contents.{cut, cut_times}
+use Rattle.layer_objects.specs.Contents.{cut, cut_times}
 use Rattle.list_laws.proofs.Members.{all-drop, all-take}
 use Rattle.layer_objects.specs.Storable.{IsSized}
 use Rattle.list_laws.proofs.Bools.{and-both}
 
 -- ---- numbers
-
-module _ {K V : Type 0} where
-  keys-fewer : (fs : List (Fact K V)) → length (keys_put fs) ≤ length fs
-  unfolding keys_put
-  keys-fewer [] = omega arith
-  keys-fewer (Put k v at ∷ fs) = let less = keys-fewer fs in omega (arith, less)
-  keys-fewer (Del k at ∷ fs) = let less = keys-fewer fs in omega (arith, less)
-  keys-fewer (DelRange lo hi at ∷ fs) = let less = keys-fewer fs in omega (arith, less)
-
-  items-fewer : (shown : K → Option (Version V)) (ks : List K) → length (items shown ks) ≤ length ks
-  unfolding items
-  items-fewer shown [] = omega arith
-  items-fewer shown (k ∷ ks) = by (shown k) (items-fewer shown ks)
-    where
-      by : (v : Option (Version V)) → length (items shown ks) ≤ length ks → length (with_item k v (items shown ks)) ≤ suc (length ks)
-      by None less = omega (arith, less)
-      by (Some v) less = omega (arith, less)
-
-insert-fewer : {X : Type 0} (cmp : X → X → Ordering) (x : X) (ys : List X) → length (insert_by cmp x ys) ≤ suc (length ys)
-unfolding insert_by
-insert-fewer cmp x [] = omega arith
-insert-fewer cmp x (y ∷ ys) = by (cmp x y) (insert-fewer cmp x ys)
-  where
-    by : (o : Ordering) → length (insert_by cmp x ys) ≤ suc (length ys) → length (by_order o (x ∷ y ∷ ys) (y ∷ ys) (y ∷ insert_by cmp x ys)) ≤ suc (suc (length ys))
-    by Less less = omega arith
-    by Equal less = omega arith
-    by Greater less = omega (arith, less)
-
-ordered-fewer : {X : Type 0} (cmp : X → X → Ordering) (xs : List X) → length (ordered cmp xs) ≤ length xs
-unfolding ordered
-ordered-fewer cmp [] = omega arith
-ordered-fewer cmp (x ∷ xs) = let one = insert-fewer cmp x (ordered cmp xs) in let less = ordered-fewer cmp xs in omega (arith, one, less)
-
--- no more puts are visible than there are facts
-pub image-fewer : {K V : Type 0} (cmp : K → K → Ordering) (t : Time) (fs : List (Fact K V)) → length (image cmp t fs) ≤ length fs
-unfolding image scan
-image-fewer {K} {V} cmp t fs =
-    let shown : K → Option (Version V) = λ k. value cmp k t fs in
-    let ks = ordered cmp (keys_put fs) in
-    let mapped = length-map (items shown ks) put_of in
-    let some = items-fewer shown ks in
-    let ascending = ordered-fewer cmp (keys_put fs) in
-    let put = keys-fewer fs in omega (arith, mapped, some, ascending, put)
 
 times-fewer : {X : Type 0} (times n : ℕ) (xs : List X) → length (cut_times times n xs) ≤ times
 times-fewer zero n xs = omega arith
@@ -123,6 +80,9 @@ key-short id kinds key is =
 abbrev pub IsSmall : ℕ → List Kind → Entry → Type 0
 IsSmall id kinds e = (is_entry id kinds e ≡ true) × IsStored e × (length (entry_code e) ≤ 40000)
 
+key-known : (id : ℕ) (kinds : List Kind) (key : Key) → id < 2 ^ 32 → IsKey kinds key → is_row_key id kinds (row_key id kinds key) ≡ true
+key-known id kinds key small is = ap (is_key_of id) (row_keys-exact.found kinds id key small is) ∙ eq-eqb id id refl
+
 put-small : (id : ℕ) (kinds : List Kind) (key : Key) (cells : Cells) (at : Time) → id < 2 ^ 32 → IsKey kinds key → IsCells cells → IsSized kinds (Put key cells at) → IsSmall id kinds (Entry.Put (row_key id kinds key) at (row_value cells))
 unfolding is_entry entry_code
 put-small id kinds key cells at small is are fit =
@@ -133,16 +93,44 @@ put-small id kinds key cells at small is are fit =
     let l = length-append (sized (mvcc_key (row_key id kinds key) at)) (sized (row_value cells)) in
     let columns = fit.0 in
     let value = fit.1 in (
-      and-both _ _ (ap (is_key_of id) (row_keys-exact.found kinds id key small is) ∙ eq-eqb id id refl) (ap reads (row_values-exact.found cells are.0 are.1)),
+      and-both _ _ (key-known id kinds key small is) (ap reads (row_values-exact.found cells are.0 are.1)),
       (fit.2, omega (arith, dated, bytes, columns), omega (arith, value)),
       omega (arith, dated, bytes, front, back, l, columns, value),
     )
 
--- a put of a table, in bytes
-pub coded-small : (id : ℕ) (kinds : List Kind) (f : RowFact) (k v : List ℕ) (at : Time) → coded id kinds f ≡ Put k v at → id < 2 ^ 32 → IsRowFact kinds f → IsSized kinds f → IsSmall id kinds (entry_of (coded id kinds f))
-coded-small id kinds (Put key cells t) k v at e small row fit = put-small id kinds key cells t small row.0 row.1 fit
-coded-small id kinds (Del key t) k v at e small row fit = absurd cc
-coded-small id kinds (DelRange lo hi t) k v at e small row fit = absurd cc
+del-small : (id : ℕ) (kinds : List Kind) (key : Key) (at : Time) → id < 2 ^ 32 → IsKey kinds key → IsSized kinds (Del key at) → IsSmall id kinds (Entry.Del (row_key id kinds key) at)
+unfolding is_entry entry_code
+del-small id kinds key at small is fit =
+    let dated = mvcc-short (row_key id kinds key) at in
+    let bytes = key-short id kinds key is in
+    let front = sized-short (mvcc_key (row_key id kinds key) at) in
+    let columns = fit.0 in (
+      key-known id kinds key small is,
+      (fit.1, omega (arith, dated, bytes, columns)),
+      omega (arith, dated, bytes, front, columns),
+    )
+
+range-small : (id : ℕ) (kinds : List Kind) (lo hi : Key) (at : Time) → id < 2 ^ 32 → IsKey kinds lo → IsKey kinds hi → IsSized kinds (DelRange lo hi at) → IsSmall id kinds (Entry.Range (row_key id kinds lo) (row_key id kinds hi) at)
+unfolding is_entry entry_code
+range-small id kinds lo hi at small low high fit =
+    let dated = mvcc-short (row_key id kinds lo) at in
+    let first = key-short id kinds lo low in
+    let last = key-short id kinds hi high in
+    let front = sized-short (mvcc_key (row_key id kinds lo) at) in
+    let back = sized-short (row_key id kinds hi) in
+    let l = length-append (sized (mvcc_key (row_key id kinds lo) at)) (sized (row_key id kinds hi)) in
+    let columns = fit.0 in
+    let others = fit.1 in (
+      and-both _ _ (and-both _ _ (key-known id kinds lo small low) (key-known id kinds hi small high)) (ap is_lt (keys-ordered id kinds small lo hi low high) ∙ fit.3),
+      (fit.2, omega (arith, dated, first, columns), omega (arith, last, others)),
+      omega (arith, dated, first, last, front, back, l, columns, others),
+    )
+
+-- a fact of a table, in bytes
+pub coded-small : (id : ℕ) (kinds : List Kind) (f : RowFact) → id < 2 ^ 32 → IsRowFact kinds f → IsSized kinds f → IsSmall id kinds (entry_of (coded id kinds f))
+coded-small id kinds (Put key cells at) small row fit = put-small id kinds key cells at small row.0 row.1 fit
+coded-small id kinds (Del key at) small row fit = del-small id kinds key at small row fit
+coded-small id kinds (DelRange lo hi at) small row fit = range-small id kinds lo hi at small row.0 row.1 fit
 
 entries-short : (es : List Entry) → AllByRecursion (λ e. length (entry_code e) ≤ 40000) es → length (entries_code es) ≤ length es * 40000
 entries-short [] all = omega arith

@@ -5,7 +5,7 @@ use Rattle.row_codec.specs.declared.rows.Kind.{Kind}
 use Rattle.table_descriptors.specs.Descriptors.{Schema, key_kinds}
 use Rattle.history_model.specs.Rows.{RowFact}
 use Rattle.history_model.specs.Histories.{Table, schemas_of}
-use Rattle.history_model.specs.Layers.{Layer}
+use Rattle.history_model.specs.Layers.{LayerRecord}
 use Rattle.schema_catalog.specs.Catalogs.{Schemas}
 use Rattle.table_rows.specs.RowTables.{RowTables, bytes_of}
 use Rattle.introduced_spans.specs.declared.plans.LayerPlan.{LayerPlan}
@@ -14,7 +14,8 @@ use Rattle.introduced_spans.specs.Spans.{plan_over}
 use Rattle.layer_manifest.specs.declared.manifest.Manifest.{Manifest}
 use Rattle.layer_model.specs.declared.names.LayerName.{LayerName}
 use Rattle.layer_model.specs.Layers as stored
-use Rattle.backup_job.specs.Contents.{bare_manifest, in_a_row, layer_of, pieces_of, with_each, with_tables}
+use Rattle.mvcc_keys.specs.declared.entries.Entry.{Entry}
+use Rattle.layer_objects.specs.Contents.{bare_manifest, in_a_row, in_version, layer_of, pieces_of, with_each, with_tables}
 
 -- ---- tables by their ids, from 100 on
 
@@ -46,23 +47,37 @@ described tables = record { databases = []; tables = schemas_of tables; limit = 
 -- ---- a layer's objects
 
 -- the name of its objects
-abbrev pub name_of : Layer → LayerName
-name_of r = record { collection = r.collection; cluster = r.cluster; full = r.full; start = r.start; end = r.end; job = r.job }
+abbrev pub name_of_record : LayerRecord → LayerName
+name_of_record r = record { collection = r.collection; cluster = r.cluster; full = r.full; start = r.start; end = r.end; job = r.job }
 
 -- what it covers
-abbrev pub covers : Layer → Span
+abbrev pub covers : LayerRecord → Span
 covers r = record { start = r.start; end = r.end; floor = r.floor; history = r.history }
 
 -- its tables, and how each is exported
-unfoldable pub plan_of : List Table → Layer → LayerPlan
+unfoldable pub plan_of : List Table → LayerRecord → LayerPlan
 plan_of tables r = plan_over (schemas_of tables) r.scope (covers r)
 
+-- the entries of each of its tables, in pieces
+abbrev pub pieces_in : List Table → LayerRecord → List (List (List Entry))
+pieces_in tables r = map (pieces_of (bytes_of (rows_of tables))) (plan_of tables r).tables
+
 -- the manifest without its chunks
-abbrev pub bare : List Table → Layer → Manifest
-bare tables r = bare_manifest (name_of r) r.history r.scope (plan_of tables r) (described tables)
+abbrev pub bare : List Table → LayerRecord → Manifest
+bare tables r = bare_manifest (name_of_record r) r.history r.scope (plan_of tables r) (described tables)
+
+-- the manifest in version 2, which tells the bounds of each chunk
+abbrev pub bounded_manifest : List Table → LayerRecord → Manifest
+bounded_manifest tables r = with_tables (bare tables r) (with_each (bare tables r).tables (pieces_in tables r))
+
+-- the manifest, in the version that the record says
+abbrev pub manifest_of : List Table → LayerRecord → Manifest
+manifest_of tables r = in_version r.version (bounded_manifest tables r)
 
 -- the layer that its objects are: the entries of its tables in chunks, and the manifest that tells of them
-unfoldable pub objects_of : List Table → Layer → stored.Layer
-objects_of tables r =
-    let pieces = map (pieces_of (bytes_of (rows_of tables))) (plan_of tables r).tables in
-    layer_of (name_of r) (with_tables (bare tables r) (with_each (bare tables r).tables pieces)) (in_a_row pieces)
+unfoldable pub objects_of : List Table → LayerRecord → stored.LayerObjects
+objects_of tables r = layer_of (name_of_record r) (manifest_of tables r) (in_a_row (pieces_in tables r))
+
+-- the record with its manifest in the first version
+abbrev pub in_first : LayerRecord → LayerRecord
+in_first r = record r { version = 1 }

@@ -7,8 +7,8 @@ use Rattle.fact_model.specs.Facts.{date}
 use Rattle.list_laws.specs.Members.{Has}
 use Rattle.history_model.specs.Rows.{RowFact}
 use Rattle.history_model.specs.Histories.{Table}
-use Rattle.history_model.specs.Layers.{Layer}
-use Rattle.layer_objects.specs.Objects.{objects_of, bare, plan_of, rows_of}
+use Rattle.history_model.specs.Layers.{LayerRecord}
+use Rattle.layer_objects.specs.Objects.{objects_of, bare, manifest_of, plan_of, rows_of}
 use Rattle.std.specs.List.{AllByRecursion}
 use Rattle.table_rows.specs.RowTables.{bytes_of}
 use Rattle.span_export.specs.Plans.{plan_entries}
@@ -43,14 +43,15 @@ AreBegun tables = (i : ℕ) (table : Table) → slice_get tables i ≡ Some tabl
 abbrev pub PastChains : Type 0
 PastChains = (s t : Time) (a b c : List Table) → time_le s t ≡ true → KeepsPast s a b → KeepsPast t b c → KeepsPast s a c
 
--- a layer has the same tables by the same plans, the same entries and descriptors of each, and the same objects
-pub record IsFinal (r : Layer) (old new : List Table) : Type 0 where
+-- a layer has the same tables by the same plans, the same entries and descriptors of each, the same manifest, and the same objects
+pub record IsFinal (r : LayerRecord) (old new : List Table) : Type 0 where
   pub plan : plan_of new r ≡ plan_of old r
   pub entries : AllByRecursion (λ (p : TablePlan). plan_entries (bytes_of (rows_of new)) p.id p.plan ≡ plan_entries (bytes_of (rows_of old)) p.id p.plan) (plan_of old r).tables
   pub bare : bare new r ≡ bare old r
+  pub manifest : manifest_of new r ≡ manifest_of old r
   pub objects : objects_of new r ≡ objects_of old r
 
 -- Finality: from its end on a layer holds the same, with history or without, full or an increment, with tables that it introduces or without,
 -- whatever is collected later, and whatever is added to tables that aren't public.
 abbrev pub LayersAreFinal : Type 0
-LayersAreFinal = (t : Time) (old new : List Table) (r : Layer) → AreBegun old → KeepsPast t old new → time_le r.floor r.end ≡ true → time_le r.end t ≡ true → IsFinal r old new
+LayersAreFinal = (t : Time) (old new : List Table) (r : LayerRecord) → AreBegun old → KeepsPast t old new → time_le r.floor r.end ≡ true → time_le r.end t ≡ true → IsFinal r old new

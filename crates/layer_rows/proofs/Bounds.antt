@@ -6,7 +6,7 @@ use Rattle.range_tombstones.specs.Ranges.{bytes_le, bytes_lt}
 use Rattle.range_tombstones.proofs.KeyLaws.{le-itself, le-trans, lt-le, not-lt, same-itself}
 use Rattle.version_store.specs.Tables.{Bytes, bytes_cmp}
 use Rattle.mvcc_keys.specs.Entries.{key_of, end_of}
-use Rattle.backup_job.specs.Contents.{bounds_of}
+use Rattle.layer_objects.specs.Contents.{bounds_of}
 use Rattle.layer_rows.specs.Reading.{are_bounds}
 use Rattle.list_laws.proofs.Bools.{or-left, or-right}
 

@@ -34,8 +34,8 @@ use Rattle.layer_model.specs.Names.{object_name}
 use Rattle.collection_dir.specs.declared.fault.DirFault.{DirFault}
 use Rattle.collection_dir.specs.declared.fault.DirFault.TheVariants.{Failed, Memory, Damaged, Malformed, LayerDiffers}
 use Rattle.collection_dir.specs.Faults.{IsDiskFault}
-use Rattle.backup_job.specs.Contents.{info_of}
-use Rattle.backup_job.proofs.Ordered.{comes_is, ordered_all}
+use Rattle.layer_objects.specs.Contents.{info_of}
+use Rattle.layer_objects.proofs.Ordered.{comes_is, ordered_all}
 use Rattle.layer_manifest.proofs.FewChunks.{count_few}
 use Rattle.layer_rows.specs.Reading.{AreEntriesOf, AreStoredAt, ChunkAnswers, TableAnswers, after_chunk, follows, held, is_told, or_malformed, read_told, stored_table, tested, with_chunk, with_chunks}
 use Rattle.layer_rows.proofs.Bounds.{bounds-told}

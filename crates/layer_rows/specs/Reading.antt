@@ -21,7 +21,7 @@ use Rattle.layer_model.specs.declared.names.Part.TheVariants.{Chunk}
 use Rattle.layer_model.specs.Names.{object_name}
 use Rattle.collection_dir.specs.declared.fault.DirFault.{DirFault}
 use Rattle.collection_dir.specs.declared.fault.DirFault.TheVariants.{Failed, Memory, Damaged, Malformed, LayerDiffers}
-use Rattle.backup_job.specs.Contents.{info_of}
+use Rattle.layer_objects.specs.Contents.{info_of}
 
 -- ---- what the manifest tells of a chunk
 

@@ -1,5 +1,5 @@
 use Rattle.std.proofs.Common.{◌≡◌, drop}
-use Rattle.backup_job.specs.Contents.{least_key}
+use Rattle.layer_objects.specs.Contents.{least_key}
 use Rattle.backup_job.proofs.chunks.least_key.Given as goal
 
 abbrev pub invariant-loop-entry : goal.invariant-loop-entry

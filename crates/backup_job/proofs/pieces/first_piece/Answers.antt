@@ -1,5 +1,5 @@
 use Rattle.std.proofs.Common.{rules, ◌∙◌, None, ap, arith}
-use Rattle.backup_job.specs.Contents.{in_a_row}
+use Rattle.layer_objects.specs.Contents.{in_a_row}
 use Rattle.backup_job.proofs.Remaining.{found_first_at, found_none_at, none_past}
 use Rattle.backup_job.proofs.pieces.first_piece.Goals as goal
 

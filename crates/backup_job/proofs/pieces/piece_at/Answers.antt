@@ -1,7 +1,8 @@
 use Rattle.std.proofs.Common.{rules, ◌≡◌, ◌∙◌, refl, ap, slice_get, Some, take}
 use Rattle.std.proofs.lemmas.Option.{slice_get_read}
 use Rattle.span_export.specs.Pieces.{after_place}
-use Rattle.backup_job.specs.Jobs.{IsStillKept, entries_in}
+use Rattle.backup_job.specs.Jobs.{IsStillKept}
+use Rattle.layer_objects.specs.Contents.{entries_in}
 use Rattle.backup_job.proofs.Remaining.{all_at, first_piece, no_piece}
 use Rattle.backup_job.proofs.pieces.piece_at.Goals as goal
 

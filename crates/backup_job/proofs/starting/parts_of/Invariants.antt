@@ -1,5 +1,5 @@
 use Rattle.std.proofs.Common.{◌≡◌, ◌++◌, drop, map}
-use Rattle.backup_job.specs.Contents.{AreProper, part_of}
+use Rattle.layer_objects.specs.Contents.{AreProper, part_of}
 use Rattle.backup_job.proofs.starting.parts_of.Given as goal
 
 abbrev pub invariant-loop-plan : goal.invariant-loop-plan

@@ -15,7 +15,7 @@ units-preserved g c =
       (λ h stood older s w among writing.
           let way = so_far.1 h stood older s w among writing in
           let now = way.writing in
-          goes-on older s w among h _ _ _ _ _ _ way c.unit.result (c.unit.ensures.step h stood now.may w now.about) (c.unit.ensures.disk h stood now.may w now.about) is
+          goes-on older s w among.started among.finished h _ _ _ _ _ _ way c.unit.result (c.unit.ensures.step h stood now.may w now.about) (c.unit.ensures.disk h stood now.may w now.about) is
           (λ later image at. g.met.D.Disk.counts_now c.unit.new.disk _ image (still_known now.known changes.kind) later at)),
       sym takes.about.name ∙ about.name ∙ so_far.2,
       changes-on _ _ _ _ _ so_far.2 so_far.3 changes,
@@ -37,7 +37,7 @@ pub returns-in-Ok-Done-clause-disk : goal.returns-in-Ok-Done-clause-disk
 returns-in-Ok-Done-clause-disk g c h stood older s w among writing =
     let way = c.units.invariant.1 h stood older s w among writing in
     let now = way.writing in
-    ends older s w among h _ _ _ _ _ _ way c.unit.result (c.unit.ensures.step h stood now.may w now.about) (c.unit.ensures.disk h stood now.may w now.about) (c.in-Ok-Done.is ∙ ap Ok c.in-Ok-Done.field-0-is)
+    ends older s w among.started among.finished h _ _ _ _ _ _ way c.unit.result (c.unit.ensures.step h stood now.may w now.about) (c.unit.ensures.disk h stood now.may w now.about) (c.in-Ok-Done.is ∙ ap Ok c.in-Ok-Done.field-0-is)
 
 pub returns-in-Ok-Done-clause-changes : goal.returns-in-Ok-Done-clause-changes
 returns-in-Ok-Done-clause-changes g c = changes-on _ _ _ _ _ c.units.invariant.2 c.units.invariant.3 c.unit.ensures.changes
@@ -46,7 +46,7 @@ pub returns-in-Err-clause-disk : goal.returns-in-Err-clause-disk
 returns-in-Err-clause-disk g c h stood older s w among writing =
     let way = c.units.invariant.1 h stood older s w among writing in
     let now = way.writing in
-    fails older s w among h _ _ _ _ _ _ way c.unit.result (c.unit.ensures.step h stood now.may w now.about) (c.unit.ensures.disk h stood now.may w now.about) _ c.in-Err.is
+    fails older s w among.started among.finished h _ _ _ _ _ _ way c.unit.result (c.unit.ensures.step h stood now.may w now.about) (c.unit.ensures.disk h stood now.may w now.about) _ c.in-Err.is
 
 pub returns-in-Err-clause-changes : goal.returns-in-Err-clause-changes
 returns-in-Err-clause-changes g c = changes-on _ _ _ _ _ c.units.invariant.2 c.units.invariant.3 c.unit.ensures.changes

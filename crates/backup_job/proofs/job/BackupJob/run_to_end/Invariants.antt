@@ -1,7 +1,7 @@
 use Rattle.std.proofs.Common.{◌≡◌, ◌-◌, ℕ, List}
 use Rattle.version_store.specs.Tables.{Tables}
 use Rattle.outside_world.specs.Moments.{ChangesOnly, NoName}
-use Rattle.layer_model.specs.Layers.{Layer}
+use Rattle.layer_model.specs.Layers.{LayerObjects}
 use Rattle.layer_model.specs.Stands.{Setting}
 use Rattle.backup_job.specs.Jobs.{MayRun, completed, written}
 use Rattle.backup_job.specs.Units.{AtLayer}
@@ -11,7 +11,7 @@ use Rattle.backup_job.proofs.job.BackupJob.run_to_end.Given as goal
 abbrev pub invariant-units : goal.invariant-units
 invariant-units g l =
     ((h : Tables) × g.V.Versions.stands l.store h × MayRun h l.self)
-    × ((h : Tables) → g.V.Versions.stands l.store h → (older : Layer → List ℕ) (s : Setting) (w : Layer) → IsAmong s w → IsWriting older s w h l.fn.self (g.D.Disk.view l.fn.disk)
+    × ((h : Tables) → g.V.Versions.stands l.store h → (older : LayerObjects → List ℕ) (s : Setting) (w : LayerObjects) → IsAmong s w → IsWriting older s w h l.fn.self (g.D.Disk.view l.fn.disk)
     → IsUnderWay older s w h l.fn.self l.self (g.D.Disk.view l.fn.disk) (g.D.Disk.view l.disk))
     × (l.self.name ≡ l.fn.self.name)
     × ChangesOnly (AtLayer l.fn.self.name) NoName (g.D.Disk.view l.fn.disk) (g.D.Disk.view l.disk)

@@ -1,6 +1,9 @@
-use Rattle.std.proofs.Common.{subst}
+use Rattle.std.proofs.Common.{subst, Err}
+use Rattle.collection_dir.specs.declared.fault.DirFault.TheVariants.{Memory}
 use Rattle.std.proofs.lemmas.Result.{err_from_is_err_and}
 use Rattle.layer_manifest.specs.Manifests.{IsProperManifest}
+use Rattle.outside_world.proofs.Runs.{still_known}
+use Rattle.backup_job.proofs.Whole.{unit-leaves}
 use Rattle.backup_job.proofs.Stepping.{completed-none, first_bytes, first_number, first_within, first_writes, fits_here, found_first, found_none, none_finishes, step_none, step_some, takes_first, untouched_unit}
 use Rattle.backup_job.proofs.job.BackupJob.unit.Goals as goal
 
@@ -33,3 +36,19 @@ returns-in-None-clause-step g c h stood may w about = step_none h w c.args.self.
 
 pub returns-in-None-clause-disk : goal.returns-in-None-clause-disk
 returns-in-None-clause-disk g c h stood may w about = none_finishes h c.args.self.now w c.finish.result _ _ (found_none h (record { name = c.self.inside.name; plans = c.self.inside.plans; place = c.self.inside.place; cursor = c.self.inside.cursor; manifest = c.self.inside.manifest }) c.args.self.now c.as_slice.result.now c.in_ok-piece.field-0 c.self.view_is c.as_slice.ensures (c.in_ok-piece.ensures.next h stood) may c.in-None.is) about (c.finish.ensures.disk w)
+
+pub returns-in_err-piece-clause-stands : goal.returns-in_err-piece-clause-stands
+returns-in_err-piece-clause-stands g c h stood older s w asked writing =
+    let p = err_from_is_err_and c.from_residual.result c.from_residual.ensures.1 in
+    rw (p.1, p.2) (unit-leaves older s w h c.args.self.now c.args.self.now _ _ (Err Memory) asked writing tt (untouched_unit _ h c.args.self.now w _ (g.met.D.Disk.only_now c.args.disk.now))
+    (λ later image at. g.met.D.Disk.counts_now c.args.disk.now _ image writing.known later at))
+
+pub returns-in-Some-clause-stands : goal.returns-in-Some-clause-stands
+returns-in-Some-clause-stands g c h stood older s w asked writing =
+    unit-leaves older s w h c.args.self.now _ _ _ c.write.result asked writing (returns-in-Some-clause-step g c h stood writing.may w writing.about) (returns-in-Some-clause-disk g c h stood writing.may w writing.about)
+    (λ later image at. g.met.D.Disk.counts_now c.write.new.disk _ image (still_known writing.known c.write.ensures.changes.kind) later at)
+
+pub returns-in-None-clause-stands : goal.returns-in-None-clause-stands
+returns-in-None-clause-stands g c h stood older s w asked writing =
+    unit-leaves older s w h c.args.self.now _ _ _ c.finish.result asked writing (returns-in-None-clause-step g c h stood writing.may w writing.about) (returns-in-None-clause-disk g c h stood writing.may w writing.about)
+    (λ later image at. g.met.D.Disk.counts_now c.finish.new.disk _ image (still_known writing.known c.finish.ensures.changes.kind) later at)

@@ -1,4 +1,5 @@
-use Rattle.std.proofs.Common.{◌∙◌, ap, length, Ok, Err}
+use Rattle.std.proofs.Common.{◌∙◌, ◌<◌, ℕ, ap, sym, subst, length, Ok, Err}
+use Rattle.backup_job.specs.Jobs.{Job, written}
 use Rattle.std.proofs.lemmas.Result.{err_from_is_err_and}
 use Rattle.chunk_file.specs.Chunks.{chunk_bytes}
 use Rattle.layer_manifest.specs.Manifests.{chunk_count}
@@ -20,7 +21,7 @@ returns-in_err-write_chunk-clause-disk g c =
     rw (← c.self.view_is, p.1, p.2) (λ w same has is. as_failed {r = Err c.in_err-write_chunk.field-0.0} w _ _ _ _ same (c.chunk_count-number.ensures ∙ ap chunk_count c.as_slice-2.ensures) (c.as_slice-3.ensures.value ∙ (c.in_ok-bytes.ensures.bytes ∙ ap chunk_bytes c.as_slice.ensures.value)) has is c.in_err-write_chunk.field-0.0 e.fault (record { wrote = e.wrote; calls = e.calls; same = e.same; put = e.put; marked = e.marked; settled = e.settled; layer = e.layer; stored = e.stored; changes = e.changes }))
 
 pub returns-in_err-write_chunk-clause-changes : goal.returns-in_err-write_chunk-clause-changes
-returns-in_err-write_chunk-clause-changes g c = rw (← c.self.view_is) (chunk_at_layer c.self.inside.name _ c.write_chunk.ensures.changes)
+returns-in_err-write_chunk-clause-changes g c = rw (← c.self.view_is) (chunk_at_layer c.self.inside.name _ (subst (λ (k : ℕ). k < 1000000) (sym (c.chunk_count-number.ensures ∙ ap chunk_count c.as_slice-2.ensures)) (subst (λ (j : Job). written j < 1000000) (sym c.self.view_is) c.requires.number)) c.write_chunk.ensures.changes)
 
 pub returns-in_err-add_info-clause-disk : goal.returns-in_err-add_info-clause-disk
 returns-in_err-add_info-clause-disk g c =
@@ -29,7 +30,7 @@ returns-in_err-add_info-clause-disk g c =
     rw (← c.self.view_is, p.1, p.2) (λ w same has is. as_failed {r = Ok c.in_ok-write_chunk.field-0} w _ _ _ _ same (c.chunk_count-number.ensures ∙ ap chunk_count c.as_slice-2.ensures) (c.as_slice-3.ensures.value ∙ (c.in_ok-bytes.ensures.bytes ∙ ap chunk_bytes c.as_slice.ensures.value)) has is Memory tt (record { wrote = e.wrote; calls = e.calls; same = e.same; put = e.put; marked = e.marked; settled = e.settled; layer = e.layer; stored = e.stored; changes = e.changes }))
 
 pub returns-in_err-add_info-clause-changes : goal.returns-in_err-add_info-clause-changes
-returns-in_err-add_info-clause-changes g c = rw (← c.self.view_is) (chunk_at_layer c.self.inside.name _ c.write_chunk.ensures.changes)
+returns-in_err-add_info-clause-changes g c = rw (← c.self.view_is) (chunk_at_layer c.self.inside.name _ (subst (λ (k : ℕ). k < 1000000) (sym (c.chunk_count-number.ensures ∙ ap chunk_count c.as_slice-2.ensures)) (subst (λ (j : Job). written j < 1000000) (sym c.self.view_is) c.requires.number)) c.write_chunk.ensures.changes)
 
 pub invariant_of-self-2 : goal.invariant_of-self-2
 invariant_of-self-2 g c = ap length c.in_ok-add_info.ensures.ok ∙ (length-with_info c.args.piece.place c.in_ok-bytes.info c.self.inside.manifest.tables ∙ c.self.invariant)
@@ -40,4 +41,4 @@ returns-clause-disk g c =
     rw (← c.self.view_is) (λ w same has is. as_written w _ _ _ _ same (c.chunk_count-number.ensures ∙ ap chunk_count c.as_slice-2.ensures) (c.as_slice-3.ensures.value ∙ (c.in_ok-bytes.ensures.bytes ∙ ap chunk_bytes c.as_slice.ensures.value)) has is Running c.in_ok-write_chunk.field-0 (record { wrote = e.wrote; calls = e.calls; same = e.same; put = e.put; marked = e.marked; settled = e.settled; layer = e.layer; stored = e.stored; changes = e.changes }))
 
 pub returns-clause-changes : goal.returns-clause-changes
-returns-clause-changes g c = rw (← c.self.view_is) (chunk_at_layer c.self.inside.name _ c.write_chunk.ensures.changes)
+returns-clause-changes g c = rw (← c.self.view_is) (chunk_at_layer c.self.inside.name _ (subst (λ (k : ℕ). k < 1000000) (sym (c.chunk_count-number.ensures ∙ ap chunk_count c.as_slice-2.ensures)) (subst (λ (j : Job). written j < 1000000) (sym c.self.view_is) c.requires.number)) c.write_chunk.ensures.changes)

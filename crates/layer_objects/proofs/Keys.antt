@@ -17,8 +17,8 @@ use Rattle.version_store.specs.Tables.{bytes_cmp}
 use Rattle.chunk_file.specs.Chunks.{chunk_bytes}
 use Rattle.chunk_file.specs.Entries.{IsStored, is_entry, is_row_key}
 use Rattle.layer_manifest.specs.Manifests.{IsBounded}
-use Rattle.backup_job.specs.Contents.{bounds_of, greater, greatest_key, info_of, least_key, lesser}
-use Rattle.backup_job.specs.Jobs.{InfosAreProper}
+use Rattle.layer_objects.specs.Contents.{bounds_of, greater, greatest_key, info_of, least_key, lesser}
+use Rattle.layer_objects.specs.CutLaws.{InfosAreProper}
 use Rattle.list_laws.proofs.Bools.{and-left}
 use Rattle.list_laws.proofs.Members.{all-weaker}
 

@@ -11,9 +11,9 @@ use Rattle.span_export.specs.Entries.{order}
 use Rattle.span_export.proofs.EntryOrder.{after-is, plan-sorted}
 use Rattle.chunk_file.specs.Chunks.{IsChunk}
 use Rattle.chunk_file.specs.Entries.{are_ordered, comes_before, is_entry}
-use Rattle.backup_job.specs.Contents.{chunk_size, cut, cut_times}
-use Rattle.backup_job.specs.Jobs.{PiecesAreChunks}
-use Rattle.backup_job.proofs.Cutting.{size_pos}
+use Rattle.layer_objects.specs.Contents.{chunk_size, cut, cut_times}
+use Rattle.layer_objects.specs.CutLaws.{PiecesAreChunks}
+use Rattle.layer_objects.proofs.Cutting.{size_pos}
 
 -- the order of a chunk is that of exports
 pub comes_is : (d e : Entry) → comes_before d e ≡ is_after (place_of d) e

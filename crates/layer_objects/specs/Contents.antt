@@ -1,16 +1,13 @@
 -- What a layer's objects hold: the entries of each table cut into chunks, and the manifest that tells of them.
-use Rattle.std.specs.Prelude.{ℕ, zero, suc, Bool, true, false, List, [], ◌∷◌, ◌++◌, length, map, filter, take, drop, fold, Option, Some, None, option_to_list, if◌then◌else◌}
+use Rattle.std.specs.Prelude.{ℕ, zero, suc, Bool, List, [], ◌∷◌, ◌++◌, length, map, take, drop, fold, Option, Some, None, ◌==◌, if◌then◌else◌}
 use Rattle.std.specs.List.{AllByRecursion, flat_map}
 use Rattle.std.specs.Ordering.{is_lt}
 use Rattle.sha2.specs.Sha256.{sha256}
 use Rattle.mvcc_keys.specs.Times.{Time}
 use Rattle.mvcc_keys.specs.declared.entries.Entry.{Entry}
 use Rattle.table_descriptors.specs.declared.scopes.Scope.{Scope}
-use Rattle.table_descriptors.specs.Descriptors.{IsProperSchema, Schema}
-use Rattle.history_model.specs.Histories.{in_force}
+use Rattle.table_descriptors.specs.Descriptors.{IsProperSchema}
 use Rattle.schema_catalog.specs.Catalogs.{Schemas, history_of}
-use Rattle.range_tombstones.specs.declared.upto.Upto.TheVariants.{At}
-use Rattle.range_tombstones.specs.Intervals.{is_between}
 use Rattle.version_store.specs.Tables.{Tables, bytes_cmp}
 use Rattle.span_export.specs.Plans.{plan_entries}
 use Rattle.introduced_spans.specs.declared.plans.LayerPlan.{LayerPlan}
@@ -22,7 +19,8 @@ use Rattle.layer_manifest.specs.declared.manifest.TablePart.{TablePart}
 use Rattle.layer_manifest.specs.declared.manifest.Manifest.{Manifest}
 use Rattle.layer_manifest.specs.ManifestFiles.{manifest_code}
 use Rattle.layer_model.specs.declared.names.LayerName.{LayerName}
-use Rattle.layer_model.specs.Layers.{Layer}
+use Rattle.collection_dir.specs.Versions.{first_version}
+use Rattle.layer_model.specs.Layers.{LayerObjects}
 use Rattle.introduced_spans.specs.Spans.{layer_descriptors}
 
 -- ---- entries, cut into pieces
@@ -41,9 +39,13 @@ cut_times (suc times) n (x ∷ xs) = take n (x ∷ xs) ∷ cut_times times n (dr
 unfoldable pub cut : {X : Type 0} → ℕ → List X → List (List X)
 cut n xs = cut_times (length xs) n xs
 
+-- the entries of a table
+abbrev pub entries_in : Tables → TablePlan → List Entry
+entries_in h plan = plan_entries h plan.id plan.plan
+
 -- the pieces of a table: the entries of its plan, cut
 abbrev pub pieces_of : Tables → TablePlan → List (List Entry)
-pieces_of h plan = cut chunk_size (plan_entries h plan.id plan.plan)
+pieces_of h plan = cut chunk_size (entries_in h plan)
 
 -- the pieces of all tables, one after the other
 abbrev pub in_a_row : List (List (List Entry)) → List (List Entry)
@@ -114,6 +116,10 @@ bare_manifest name history scope plan catalog = record {
   version = 2;
 }
 
+-- a manifest in a version: the first has no bounds
+abbrev pub in_version : ℕ → Manifest → Manifest
+in_version version m = if version == 1 then first_version m else m
+
 -- a layer of that name with this manifest, and with these pieces as its chunks
-abbrev pub layer_of : LayerName → Manifest → List (List Entry) → Layer
+abbrev pub layer_of : LayerName → Manifest → List (List Entry) → LayerObjects
 layer_of name m pieces = record { name = name; manifest = manifest_code m; chunks = map chunk_bytes pieces }

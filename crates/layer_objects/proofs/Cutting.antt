@@ -1,7 +1,7 @@
 -- How lists are cut into pieces.
 use Rattle.std.proofs.Common.{◌≡◌, ◌≢◌, ℕ, zero, suc, ◌<◌, ◌≤◌, refl, ap, List, [], ◌∷◌, length, take, drop, arith}
 use Rattle.std.proofs.lemmas.List.{length-drop}
-use Rattle.backup_job.specs.Contents.{chunk_size, cut, cut_times}
+use Rattle.layer_objects.specs.Contents.{chunk_size, cut, cut_times}
 
 pub size_pos : 0 < chunk_size
 unfolding chunk_size

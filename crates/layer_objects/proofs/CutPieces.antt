@@ -1,9 +1,9 @@
 -- A list is cut into its pieces.
 use Rattle.std.proofs.Common.{◌≡◌, ℕ, zero, suc, ◌<◌, ◌≤◌, refl, sym, ap, ◌∙◌, List, [], ◌∷◌, ◌++◌, length, take, drop, arith, Option, Some, slice_get}
 use Rattle.std.proofs.lemmas.List.{length-drop, length-take-le, take-append-drop}
-use Rattle.backup_job.specs.Contents.{chunk_size, cut, cut_times}
-use Rattle.backup_job.specs.CutLaws.{AreItsPieces, EntriesAreCut}
-use Rattle.backup_job.proofs.Cutting.{shorter}
+use Rattle.layer_objects.specs.Contents.{chunk_size, cut, cut_times}
+use Rattle.layer_objects.specs.CutLaws.{AreItsPieces, EntriesAreCut}
+use Rattle.layer_objects.proofs.Cutting.{shorter}
 
 no-pieces : {X : Type 0} (n : ℕ) → AreItsPieces {X = X} n [] []
 no-pieces {X} n = record { joined = refl; full = λ i p l g. absurd (omega (arith, l)); some = λ i p g. absurd (cc); none = ((λ e. refl), (λ e. refl)) }
