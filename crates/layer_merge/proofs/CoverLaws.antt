@@ -60,14 +60,14 @@ not-false : (b : Bool) → not b ≡ false → b ≡ true
 not-false true e = refl
 not-false false e = absurd (true≢false e)
 
-is-range : (e : Entry) → is_point (fact_of e) ≡ false → is_range e ≡ true
+pub is-range : (e : Entry) → is_point (fact_of e) ≡ false → is_range e ≡ true
 is-range e p = not-false (is_range e) (sym (range-fact e) ∙ p)
 
 -- a range of all entries is one that is kept, and the other way round
-kept-fact : (rs all : List Entry) (g : Fact Bytes Bytes) → HasRanges rs all → is_point g ≡ false → Has g (facts_of all) → Has g (facts_of rs)
+pub kept-fact : (rs all : List Entry) (g : Fact Bytes Bytes) → HasRanges rs all → is_point g ≡ false → Has g (facts_of all) → Has g (facts_of rs)
 kept-fact rs all g r p h = let m = members.map-has fact_of g all h in subst (λ (x : Fact Bytes Bytes). Has x (facts_of rs)) (sym m.2) (members.has-map fact_of m.0 rs (r.kept m.0 m.1 (is-range m.0 (subst (λ (x : Fact Bytes Bytes). is_point x ≡ false) m.2 p))))
 
-only-fact : (rs all : List Entry) (g : Fact Bytes Bytes) → HasRanges rs all → Has g (facts_of rs) → Has g (facts_of all)
+pub only-fact : (rs all : List Entry) (g : Fact Bytes Bytes) → HasRanges rs all → Has g (facts_of rs) → Has g (facts_of all)
 only-fact rs all g r h = let m = members.map-has fact_of g rs h in subst (λ (x : Fact Bytes Bytes). Has x (facts_of all)) (sym m.2) (members.has-map fact_of m.0 all (r.only m.0 m.1).0)
 
 pub cover-same : (rs all : List Entry) (key : Bytes) (t : Time) (c : Option Time) → HasRanges rs all → IsCover bytes_cmp key t (facts_of rs) c → IsCover bytes_cmp key t (facts_of all) c

@@ -11,3 +11,8 @@ pub mod MergeLaws
 pub mod NewMerges
 pub mod StepLaws
 pub mod RangeFaults
+pub mod ChangeLaws
+pub mod ChangeSteps
+pub mod ListedRanges
+pub mod EntryLaws
+pub mod WithinLaws

@@ -27,17 +27,17 @@ use Rattle.version_store.proofs.Bytes.{bytes_order}
 use Rattle.list_laws.proofs.Bools.{and-parts}
 use Rattle.list_laws.proofs.Orderings.{lt-Less}
 
-key-same : (e : Entry) → fact_key (fact_of e) ≡ key_of e
+pub key-same : (e : Entry) → fact_key (fact_of e) ≡ key_of e
 key-same (Entry.Put key at value) = refl
 key-same (Entry.Del key at) = refl
 key-same (Entry.Range lo hi at) = refl
 
-date-same : (e : Entry) → date (fact_of e) ≡ date_of e
+pub date-same : (e : Entry) → date (fact_of e) ≡ date_of e
 date-same (Entry.Put key at value) = refl
 date-same (Entry.Del key at) = refl
 date-same (Entry.Range lo hi at) = refl
 
-cmp-same : (d e : Entry) → fact_cmp bytes_cmp (fact_of d) (fact_of e) ≡ point_cmp d e
+pub cmp-same : (d e : Entry) → fact_cmp bytes_cmp (fact_of d) (fact_of e) ≡ point_cmp d e
 cmp-same d e = ap₂ (λ (a b : Ordering). ordering_then a b) (ap₂ bytes_cmp (key-same d) (key-same e)) (ap₂ time_cmp (date-same e) (date-same d))
 
 -- `counts`, without a first date, is `is_due`
@@ -45,7 +45,7 @@ regroup : (p q r : Bool) → (p && (q && (true && r))) ≡ ((p && q) && r)
 regroup true q r = refl
 regroup false q r = refl
 
-past-same : (done : Option Bytes) (key : Bytes) → is_past bytes_cmp done key ≡ is_after done key
+pub past-same : (done : Option Bytes) (key : Bytes) → is_past bytes_cmp done key ≡ is_after done key
 past-same None key = refl
 past-same (Some d) key = refl
 
@@ -55,7 +55,7 @@ due-counts v last (Entry.Put key at value) n = rw (n, past-same last key) (regro
 due-counts v last (Entry.Del key at) n = rw (n, past-same last key) (regroup (is_after last key) (is_asked v key) (time_le at v.upto))
 due-counts v last (Entry.Range lo hi at) n = refl
 
-facts-have : (f : Fact Bytes Bytes) (all : List Entry) → Has f (facts_of all) → (e : Entry) × (Has e all × (f ≡ fact_of e))
+pub facts-have : (f : Fact Bytes Bytes) (all : List Entry) → Has f (facts_of all) → (e : Entry) × (Has e all × (f ≡ fact_of e))
 facts-have f all h = let m = members.map-has fact_of f all h in (m.0, (m.1, m.2))
 
 next-due : (v : Wanted) (done : Option Bytes) (all : List Entry) (e : Entry) → v.after ≡ None → IsNext v done all e → IsFirstDue bytes_cmp (is_asked v) (λ (d : Time). time_le d v.upto) done (facts_of all) (fact_of e)

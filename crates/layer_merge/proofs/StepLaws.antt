@@ -27,7 +27,7 @@ loads-then xs ys (Some ls) = ap Some (append_assoc ls xs ys)
 pub told-then : (xs ys : List Load) (a b c : Option (List Load)) → b ≡ with_loads xs a → c ≡ with_loads ys b → c ≡ with_loads (xs ++ ys) a
 told-then xs ys a b c p q = q ∙ ap (with_loads ys) p ∙ loads-then xs ys a
 
-times-then : (x : Load) (xs ys : List Load) → times x (xs ++ ys) ≡ times x xs + times x ys
+pub times-then : (x : Load) (xs ys : List Load) → times x (xs ++ ys) ≡ times x xs + times x ys
 times-then x xs ys = sum_by-append _ xs ys
 
 load-append : (table : ℕ) (x : Load) (xs ys : List Stand) → to_load table x (xs ++ ys) ≡ to_load table x xs + to_load table x ys

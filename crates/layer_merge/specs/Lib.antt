@@ -12,3 +12,5 @@ pub mod Walks
 pub mod Shares
 pub mod Laws
 pub mod Parts
+pub mod Changes
+pub mod Within

@@ -1,8 +1,10 @@
 //! Merges of the entries of one table in several layers, streamed over their chunks.
 #![tactic(auto)]
 
+mod changes;
 mod chunks;
 mod cursor;
+mod entry_merge;
 mod laws;
 mod loading;
 mod parts;
@@ -16,6 +18,7 @@ mod walk;
 mod wanted;
 
 pub use chunks::{Chunks, MergeFault};
+pub use entry_merge::EntryMerge;
 pub use laws::chains_are_whole;
 pub use mvcc_keys::{Entry, Memory};
 pub use parts::Part;

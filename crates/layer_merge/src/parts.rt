@@ -1,11 +1,13 @@
 //! The parts of a merge.
-ghost use Rattle.std.specs.Prelude.{◌≡◌, IfOk, None};
-ghost use Rattle.std.specs.List.{list_any, range_with_len};
+ghost use Rattle.std.specs.Prelude.{◌≡◌, IfOk, None, slice_get};
+ghost use Rattle.std.specs.List.{list_any};
 ghost use Rattle.layer_merge.specs.FromLast.{from_last};
-ghost use Rattle.layer_merge.specs.Parts.{AreWaiting, is_introduced};
+ghost use Rattle.layer_merge.specs.Parts.{is_introduced};
+ghost use Rattle.layer_merge.specs.Within.{AreAsked, may_hold, wanted_numbers};
 
 use crate::Memory;
 use crate::ranges::Waiting;
+use crate::wanted::Wanted;
 use mvcc_keys::Blob;
 use std::alloc::Global;
 use std::collections::VecDeque;
@@ -20,7 +22,8 @@ pub struct Part {
     pub bounds: Vec<Option<(Blob, Blob)>>,
 }
 
-fn any_introduced(parts: &[Part]) -> bool
+/// Whether one of the parts introduces the table.
+pub(crate) fn any_introduced(parts: &[Part]) -> bool
     ensures { result ≡ list_any is_introduced parts.now }
 {
     parts.iter().any(|p| p.introduced)
@@ -40,26 +43,42 @@ pub(crate) fn counted(parts: &[Part]) -> &[Part]
     rest
 }
 
-/// The numbers below a count.
-fn numbers_below(alloc: Global, count: u32) -> Result<VecDeque<u32>, Memory>
-    ensures { IfOk result (λ ns. ns.items ≡ range_with_len 0 count) }
+/// Whether a chunk of a part may hold something of the keys that are asked for.
+fn may_hold(part: &Part, number: u32, wanted: &Wanted) -> bool
+    ensures { result ≡ may_hold wanted.now (slice_get part.now.bounds.items number) }
+{
+    match part.bounds.as_slice().get(number as usize) {
+        Some(Some((least, greatest))) => wanted.reaches(least.as_slice(), greatest.as_slice()),
+        _ => true,
+    }
+}
+
+/// The numbers of the chunks of a part that may hold something of the keys that are asked for.
+fn numbers_of(alloc: Global, part: &Part, wanted: &Wanted) -> Result<VecDeque<u32>, Memory>
+    ensures { IfOk result (λ ns. ns.items ≡ wanted_numbers wanted.now part.now) }
 {
     let mut numbers = VecDeque::new(alloc);
-    for number in 0..count {
-        if numbers.push_back(number).is_err() {
-            return Err(Memory);
+    for number in 0..part.chunks {
+        if may_hold(part, number, wanted) {
+            if numbers.push_back(number).is_err() {
+                return Err(Memory);
+            }
         }
     }
     Ok(numbers)
 }
 
-/// Parts, with all their chunks to load.
-pub(crate) fn waiting_of(alloc: Global, parts: &[Part]) -> Result<VecDeque<Waiting>, Memory>
-    ensures { IfOk result (λ ws. AreWaiting parts.now ws.items) }
+/// Parts, with their chunks to load for the keys that are asked for.
+pub(crate) fn waiting_of(
+    alloc: Global,
+    parts: &[Part],
+    wanted: &Wanted,
+) -> Result<VecDeque<Waiting>, Memory>
+    ensures { IfOk result (λ ws. AreAsked wanted.now parts.now ws.items) }
 {
     let mut waiting = VecDeque::new(alloc);
     for part in parts {
-        let numbers = match numbers_below(alloc, part.chunks) {
+        let numbers = match numbers_of(alloc, part, wanted) {
             Ok(numbers) => numbers,
             Err(refused) => return Err(refused),
         };

@@ -1,15 +1,18 @@
 //! The range deletions that a merge keeps, asked for the newest that covers a key.
-ghost use Rattle.std.specs.Prelude.{◌≡◌, true, [], ◌∷◌, OnOk};
+ghost use Rattle.std.specs.Prelude.{◌≡◌, true, [], ◌∷◌, IfOk, OnOk};
 ghost use Rattle.std.specs.Ordering.{is_lt};
 ghost use Rattle.mvcc_keys.specs.declared.entries.Entry.{Entry};
-ghost use Rattle.version_store.specs.Tables.{bytes_cmp};
+ghost use Rattle.range_tombstones.specs.Intervals.{is_between};
+ghost use Rattle.range_tombstones.specs.declared.upto.Upto.TheVariants.{At};
+ghost use Rattle.fact_model.specs.Listed.{ranges};
+ghost use Rattle.version_store.specs.Tables.{bytes_cmp, entries_of};
 ghost use Rattle.version_store.specs.Lists.{facts_of};
 ghost use Rattle.layer_merge.specs.Nexts.{IsCover};
 ghost use Rattle.layer_merge.specs.Ranges.{AddsAll};
 
 use crate::Memory;
-use mvcc_keys::Hlc;
-use range_tombstones::Fragments;
+use mvcc_keys::{Entry, Hlc};
+use range_tombstones::{Fragments, Upto};
 use std::alloc::Global;
 use std::marker::Model;
 
@@ -54,5 +57,12 @@ impl RangeSet {
         ensures { IsCover bytes_cmp key.now upto (facts_of self.now) result }
     {
         self.fragments.newest(key, upto)
+    }
+
+    /// Those dated after one time and up to another, by date.
+    pub(crate) fn between(&self, from: Hlc, upto: Hlc) -> Result<Vec<Entry>, Memory>
+        ensures { IfOk result (λ es. es.items ≡ entries_of (ranges (is_between from (At upto)) (facts_of self.now))) }
+    {
+        self.fragments.originals(from, Upto::At(upto))
     }
 }

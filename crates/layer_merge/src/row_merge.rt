@@ -1,15 +1,16 @@
 //! The rows of a table as of a time, out of the layers of a chain.
-ghost use Rattle.std.specs.Prelude.{◌≡◌, true, false, [], None, IfOk, IfErr, IfSome, OnOk, List};
+ghost use Rattle.std.specs.Prelude.{◌≡◌, ◌+◌, true, false, [], None, IfOk, IfErr, IfSome, OnOk, List};
 ghost use Rattle.mvcc_keys.specs.declared.entries.Entry.{Entry};
-ghost use Rattle.layer_merge.specs.Loads.{Gives, IsOthers, World};
-ghost use Rattle.layer_merge.specs.Steps.{IsMergeFault, IsOfHeld, IsStep, to_load};
+ghost use Rattle.layer_merge.specs.Loads.{Gives, IsOthers, Load, World};
+ghost use Rattle.layer_merge.specs.Within.{AreBounded, keys_within, rows_within, wanted_entries, wanted_loads};
+ghost use Rattle.layer_merge.specs.Steps.{IsMergeFault, IsOfHeld, IsStep, times, to_load};
 ghost use Rattle.layer_merge.specs.Rows.{Gave};
 ghost use Rattle.layer_merge.specs.Walks.{MergesOver, may_load, rows_of};
 ghost use Rattle.layer_merge.specs.Parts.{AreProper, counted_entries, merge_rows};
 
-use crate::parts::{Part, counted, waiting_of};
+use crate::parts::Part;
 use crate::walk::Walk;
-use crate::wanted::wanted_upto;
+use crate::wanted::{wanted_from, wanted_within};
 use crate::{Chunks, Kind, Memory, MergeFault};
 use mvcc_keys::{Entry, Hlc};
 use std::alloc::Global;
@@ -48,11 +49,38 @@ impl RowMerge {
         ensures held { IfOk result (λ m. m.walk.stands ≡ []) }
         ensures rows { (w : World) → AreProper w parts.now → IfOk result (λ m. MergesOver w (counted_entries w parts.now) m.walk × (rows_of (counted_entries w parts.now) m.walk ≡ merge_rows w parts.now t)) }
     {
-        let waiting = match waiting_of(alloc, counted(parts)) {
-            Ok(waiting) => waiting,
+        match Walk::over(alloc, table, kinds, parts, wanted_from(alloc, None, t)) {
+            Ok(walk) => Ok(RowMerge {
+                walk,
+                failed: false,
+            }),
+            Err(refused) => Err(refused),
+        }
+    }
+
+    /// The same of the keys from `lo` up to, not including, `hi`. It loads no chunk whose bounds
+    /// say that it holds none of them.
+    pub fn within(
+        alloc: Global,
+        table: u32,
+        kinds: &[Kind],
+        parts: &[Part],
+        t: Hlc,
+        lo: &[u8],
+        hi: &[u8],
+    ) -> Result<RowMerge, Memory>
+        ensures table { IfOk result (λ m. m.walk.table ≡ table) }
+        ensures kinds { IfOk result (λ m. m.walk.kinds ≡ kinds.now) }
+        ensures failed { IfOk result (λ m. m.failed ≡ false) }
+        ensures held { IfOk result (λ m. m.walk.stands ≡ []) }
+        ensures loads { IfOk result (λ m. (x : Load) → may_load x m.walk ≡ times x (wanted_loads table (keys_within lo.now hi.now t) parts.now) + times x (wanted_loads table (keys_within lo.now hi.now t) parts.now)) }
+        ensures rows { (w : World) → AreProper w parts.now → AreBounded w parts.now → IfOk result (λ m. MergesOver w (wanted_entries w (keys_within lo.now hi.now t) parts.now) m.walk × (rows_of (wanted_entries w (keys_within lo.now hi.now t) parts.now) m.walk ≡ rows_within w parts.now t lo.now hi.now)) }
+    {
+        let wanted = match wanted_within(alloc, lo, hi, t) {
+            Ok(wanted) => wanted,
             Err(refused) => return Err(refused),
         };
-        match Walk::new(alloc, table, kinds, wanted_upto(alloc, t), waiting) {
+        match Walk::over(alloc, table, kinds, parts, wanted) {
             Ok(walk) => Ok(RowMerge {
                 walk,
                 failed: false,

@@ -61,7 +61,8 @@ fn shown(
     }
 }
 
-fn key_of<'a>(entry: &EntryView<'a>) -> &'a [u8]
+/// The key of an entry, the first key of a range deletion.
+pub(crate) fn key_of<'a>(entry: &EntryView<'a>) -> &'a [u8]
     ensures { result.now ≡ key_of (seen entry.now) }
 {
     match entry {

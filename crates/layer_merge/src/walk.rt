@@ -3,17 +3,23 @@ ghost use Rattle.std.specs.Prelude.{◌≡◌, true, false, [], None, IfOk, IfEr
 ghost use Rattle.mvcc_keys.specs.declared.entries.Entry.{Entry};
 ghost use Rattle.layer_merge.specs.Loads.{Gives, IsOthers, World};
 ghost use Rattle.layer_merge.specs.Steps.{IsMergeFault, IsOfHeld, IsStep, to_load};
+ghost use Rattle.layer_merge.specs.Changes.{changes_of, ranges_held};
+ghost use Rattle.layer_merge.specs.FromLast.{from_last};
+ghost use Rattle.layer_merge.specs.Parts.{is_introduced};
 ghost use Rattle.layer_merge.specs.Rows.{Gave};
+ghost use Rattle.layer_merge.specs.Within.{AreAsked};
 ghost use Rattle.layer_merge.specs.Walks.{MergesOver, may_load, rows_of};
 
+use crate::changes::next_change;
 use crate::cursor::Cursor;
+use crate::parts::{Part, counted, waiting_of};
 use crate::range_set::RangeSet;
 use crate::ranges::Waiting;
 use crate::rows::next_row;
 use crate::start::start;
 use crate::wanted::Wanted;
 use crate::{Chunks, Kind, Memory, MergeFault};
-use mvcc_keys::{Blob, Entry};
+use mvcc_keys::{Blob, Entry, Hlc};
 use std::alloc::Global;
 use std::collections::{BinaryHeap, VecDeque};
 use std::marker::Model;
@@ -46,7 +52,7 @@ impl Model for Walk {
 
 impl Walk {
     /// A walk over parts that wait.
-    pub(crate) fn new(
+    fn new(
         alloc: Global,
         table: u32,
         kinds: &[Kind],
@@ -77,6 +83,30 @@ impl Walk {
             done: None,
             begun: false,
         })
+    }
+
+    /// A walk over the parts that count, with the chunks that may hold what is asked for.
+    pub(crate) fn over(
+        alloc: Global,
+        table: u32,
+        kinds: &[Kind],
+        parts: &[Part],
+        wanted: Wanted,
+    ) -> Result<Walk, Memory>
+        ensures table { IfOk result (λ m. m.table ≡ table) }
+        ensures kinds { IfOk result (λ m. m.kinds ≡ kinds.now) }
+        ensures wanted { IfOk result (λ m. m.wanted ≡ wanted) }
+        ensures asked { IfOk result (λ m. AreAsked wanted (from_last is_introduced parts.now) m.waiting) }
+        ensures stands { IfOk result (λ m. m.stands ≡ []) }
+        ensures ranges { IfOk result (λ m. m.ranges ≡ []) }
+        ensures last { IfOk result (λ m. m.done ≡ None) }
+        ensures begun { IfOk result (λ m. m.begun ≡ false) }
+    {
+        let waiting = match waiting_of(alloc, counted(parts), &wanted) {
+            Ok(waiting) => waiting,
+            Err(refused) => return Err(refused),
+        };
+        Walk::new(alloc, table, kinds, wanted, waiting)
     }
 
     /// Loads what is needed before the first row, once.
@@ -158,5 +188,68 @@ impl Walk {
             Err(fault) => return Err(fault),
         }
         self.row(chunks)
+    }
+
+    /// The next change, once the walk has begun.
+    fn change<C: Chunks>(&mut self, chunks: &mut C) -> Result<Option<Entry>, MergeFault<C::Fault>>
+        requires { self.old.begun ≡ true }
+        ensures step { IsStep C.kept C.came C.loads self.old.table chunks.old chunks.new self.old.stands self.new.stands (λ x. to_load self.old.table x self.old.stands) (λ x. to_load self.old.table x self.new.stands) }
+        ensures fault { IfErr result (IsMergeFault (C.came chunks.old chunks.new) self.old.table self.old.kinds self.old.stands) }
+        ensures put { IfOk result (λ r. IfSome r (IsOfHeld (C.came chunks.old chunks.new) self.old.table self.old.stands)) }
+        ensures sound { (w : World) (all : List Entry) → Gives C.came self.old.table self.old.kinds w chunks.old → MergesOver w all self.old → IfErr result IsOthers }
+        ensures begun { self.new.begun ≡ true }
+        ensures table { self.new.table ≡ self.old.table }
+        ensures kinds { self.new.kinds ≡ self.old.kinds }
+        ensures wanted { self.new.wanted ≡ self.old.wanted }
+        ensures world { (w : World) (all : List Entry) → Gives C.came self.old.table self.old.kinds w chunks.old → MergesOver w all self.old → IfOk result (λ r. Gave r (changes_of all self.old) (changes_of all self.new) × MergesOver w all self.new) }
+    {
+        next_change(
+            self.alloc,
+            &mut self.cursors,
+            chunks,
+            self.table,
+            self.kinds.as_slice(),
+            &self.wanted,
+            &mut self.done,
+        )
+    }
+
+    /// The next change; None exactly where none is left.
+    pub(crate) fn next_change<C: Chunks>(
+        &mut self,
+        chunks: &mut C,
+    ) -> Result<Option<Entry>, MergeFault<C::Fault>>
+        ensures step { IsStep C.kept C.came C.loads self.old.table chunks.old chunks.new self.old.stands self.new.stands (λ x. may_load x self.old) (λ x. to_load self.old.table x self.new.stands) }
+        ensures fault { IfErr result (IsMergeFault (C.came chunks.old chunks.new) self.old.table self.old.kinds self.old.stands) }
+        ensures put { IfOk result (λ r. IfSome r (IsOfHeld (C.came chunks.old chunks.new) self.old.table self.old.stands)) }
+        ensures sound { (w : World) (all : List Entry) → Gives C.came self.old.table self.old.kinds w chunks.old → MergesOver w all self.old → IfErr result IsOthers }
+        ensures begun { OnOk result (self.new.begun ≡ true) }
+        ensures table { self.new.table ≡ self.old.table }
+        ensures kinds { self.new.kinds ≡ self.old.kinds }
+        ensures wanted { self.new.wanted ≡ self.old.wanted }
+        ensures changes { (w : World) (all : List Entry) → Gives C.came self.old.table self.old.kinds w chunks.old → MergesOver w all self.old → IfOk result (λ r. Gave r (changes_of all self.old) (changes_of all self.new) × MergesOver w all self.new) }
+    {
+        match self.begin(chunks) {
+            Ok(()) => {}
+            Err(fault) => return Err(fault),
+        }
+        self.change(chunks)
+    }
+
+    /// The date after which entries are asked for, where one is.
+    pub(crate) fn after(&self) -> Option<Hlc>
+        ensures { result ≡ self.now.wanted.after }
+    {
+        self.wanted.after
+    }
+
+    /// The range deletions that are kept, after one time and up to the last that is asked for.
+    pub(crate) fn range_deletions(&self, from: Hlc) -> Result<VecDeque<Entry>, Memory>
+        ensures { IfOk result (λ es. es.items ≡ ranges_held from self.now) }
+    {
+        match self.ranges.between(from, self.wanted.upto) {
+            Ok(entries) => Ok(VecDeque::from_vec(entries)),
+            Err(refused) => Err(refused),
+        }
     }
 }

@@ -1,9 +1,11 @@
 //! Which entries a merge is asked for.
-ghost use Rattle.std.specs.Prelude.{◌≡◌, [], None};
+ghost use Rattle.std.specs.Prelude.{◌≡◌, [], None, IfOk};
 ghost use Rattle.chunk_file.specs.Entries.{is_range, date_of, seen};
 ghost use Rattle.mvcc_keys.specs.Entries.{key_of};
+ghost use Rattle.layer_merge.specs.Within.{keys_within, reaches};
 ghost use Rattle.layer_merge.specs.Stands.{counts, is_after, is_below, is_later, is_wanted};
 
+use crate::Memory;
 use mvcc_keys::{Blob, EntryView, Hlc};
 use std::alloc::Global;
 
@@ -51,6 +53,13 @@ impl Wanted {
             && is_below(&self.hi, key)
             && (is_later(&self.after, at) && at <= self.upto)
     }
+
+    /// Whether a key that is asked for may lie between a chunk's least and its greatest key.
+    pub(crate) fn reaches(&self, least: &[u8], greatest: &[u8]) -> bool
+        ensures { result ≡ reaches self.now least.now greatest.now }
+    {
+        self.lo.as_slice().cmp(greatest).is_le() && is_below(&self.hi, least)
+    }
 }
 
 /// Whether an entry counts, where a key was the last one given.
@@ -65,17 +74,36 @@ pub(crate) fn counts(entry: &EntryView<'_>, wanted: &Wanted, done: &Option<Blob>
     }
 }
 
-/// All keys, and all dates up to a time.
-pub(crate) fn wanted_upto(alloc: Global, t: Hlc) -> Wanted
+/// All keys, and the dates after one, where one is given, up to another.
+pub(crate) fn wanted_from(alloc: Global, after: Option<Hlc>, upto: Hlc) -> Wanted
     ensures lo { result.lo ≡ [] }
     ensures hi { result.hi ≡ None }
-    ensures after { result.after ≡ None }
-    ensures upto { result.upto ≡ t }
+    ensures after { result.after ≡ after }
+    ensures upto { result.upto ≡ upto }
 {
     Wanted {
         lo: Blob::from_vec(Vec::new(alloc)),
         hi: None,
-        after: None,
-        upto: t,
+        after,
+        upto,
     }
+}
+
+/// The keys from `lo` up to, not including, `hi`, and all dates up to a time.
+pub(crate) fn wanted_within(
+    alloc: Global,
+    lo: &[u8],
+    hi: &[u8],
+    upto: Hlc,
+) -> Result<Wanted, Memory>
+    ensures { IfOk result (λ v. v ≡ keys_within lo.now hi.now upto) }
+{
+    let lo = Blob::copy_of(alloc, lo)?;
+    let hi = Blob::copy_of(alloc, hi)?;
+    Ok(Wanted {
+        lo,
+        hi: Some(hi),
+        after: None,
+        upto,
+    })
 }

@@ -1,15 +1,15 @@
 -- A merge over the entries of the parts that count.
-use Rattle.std.proofs.Common.{◌∙◌, sym, ap, subst, List}
-use Rattle.layer_merge.specs.declared.ranges.Waiting.{Waiting}
+use Rattle.std.proofs.Common.{◌∙◌, ap, refl}
 use Rattle.layer_merge.specs.declared.wanted.Wanted.{Wanted}
-use Rattle.layer_merge.specs.Parts.{AreWaiting}
 use Rattle.layer_merge.proofs.NewMerges.{made, rows-made}
+use Rattle.layer_merge.proofs.WithinLaws.{asked-whole}
 use Rattle.layer_merge.proofs.row_merge.RowMerge.new.Goals as goal
 
-pub returns-in-Ok-new-clause-rows : goal.returns-in-Ok-new-clause-rows
-returns-in-Ok-new-clause-rows c =
-    let new = c.in-Ok-new.ensures in
+pub returns-in-Ok-clause-rows : goal.returns-in-Ok-clause-rows
+returns-in-Ok-clause-rows c =
+    let new = c.in-Ok.ensures in
+    let v = c.wanted_from.ensures in
     λ w p. (
-      made w c.args.parts.now c.counted.result.now c.in-Ok-new.walk c.counted.ensures (subst (λ (ws : List Waiting). AreWaiting c.counted.result.now ws) (sym new.waiting) c.in-Ok.ensures) new.stands new.ranges new.begun p,
-      rows-made w c.args.parts.now c.in-Ok-new.walk.wanted c.in-Ok-new.walk.done c.args.t (ap (λ (v : Wanted). v.lo) new.wanted ∙ c.wanted_upto.ensures.lo) (ap (λ (v : Wanted). v.hi) new.wanted ∙ c.wanted_upto.ensures.hi) (ap (λ (v : Wanted). v.upto) new.wanted ∙ c.wanted_upto.ensures.upto) new.last,
+      made w c.args.parts.now _ c.in-Ok.walk refl (asked-whole c.wanted_from.result _ _ v.lo v.hi new.asked) new.stands new.ranges new.begun p,
+      rows-made w c.args.parts.now c.in-Ok.walk.wanted c.in-Ok.walk.done c.args.t (ap (λ (x : Wanted). x.lo) new.wanted ∙ v.lo) (ap (λ (x : Wanted). x.hi) new.wanted ∙ v.hi) (ap (λ (x : Wanted). x.upto) new.wanted ∙ v.upto) new.last,
     )

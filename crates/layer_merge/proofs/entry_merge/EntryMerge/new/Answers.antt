@@ -1,0 +1,16 @@
+-- A merge over the entries of the parts that count.
+use Rattle.std.proofs.Common.{◌∙◌, ap, refl}
+use Rattle.layer_merge.specs.declared.wanted.Wanted.{Wanted}
+use Rattle.layer_merge.proofs.EntryLaws.{merge-made}
+use Rattle.layer_merge.proofs.NewMerges.{made}
+use Rattle.layer_merge.proofs.WithinLaws.{asked-whole}
+use Rattle.layer_merge.proofs.entry_merge.EntryMerge.new.Goals as goal
+
+pub returns-in-Ok-clause-entries : goal.returns-in-Ok-clause-entries
+returns-in-Ok-clause-entries c =
+    let new = c.in-Ok.ensures in
+    let v = c.wanted_from-wanted.ensures in
+    λ w p. (
+      made w c.args.parts.now _ c.in-Ok.walk refl (asked-whole c.wanted_from-wanted.result _ _ v.lo v.hi new.asked) new.stands new.ranges new.begun p,
+      merge-made w c.args.parts.now c.args.from c.args.to c.in-Ok.walk _ (ap (λ (x : Wanted). x.lo) new.wanted ∙ v.lo) (ap (λ (x : Wanted). x.hi) new.wanted ∙ v.hi) (ap (λ (x : Wanted). x.after) new.wanted ∙ v.after ∙ c.first_date.ensures) (ap (λ (x : Wanted). x.upto) new.wanted ∙ v.upto) new.last,
+    )

@@ -1,0 +1,41 @@
+-- A change after the start.
+use Rattle.std.proofs.Common.{ℕ, sym, ap₂, subst, List, Option, IfOk}
+use Rattle.version_store.specs.Tables.{Bytes}
+use Rattle.layer_merge.specs.declared.wanted.Wanted.{Wanted}
+use Rattle.mvcc_keys.specs.declared.entries.Entry.{Entry}
+use Rattle.row_codec.specs.declared.rows.Kind.{Kind}
+use Rattle.layer_merge.specs.Loads.{Gives}
+use Rattle.layer_merge.specs.Rows.{Gave}
+use Rattle.layer_merge.specs.Walks.{MergesOver}
+use Rattle.layer_merge.specs.Changes.{changes_left, changes_of}
+use Rattle.layer_merge.proofs.StepLaws.{fault-then, if-err, if-put, of-held-then, step-then}
+use Rattle.layer_merge.proofs.walk.Walk.next_change.Goals as goal
+
+pub returns-clause-changes : goal.returns-clause-changes
+returns-clause-changes g c = λ w all gives m.
+    let later : Gives g.C.Chunks.came c.args.self.now.table c.args.self.now.kinds w c.begin.new.chunks = λ to layer number bytes h. gives to layer number bytes (g.met.C.Chunks.came_later _ _ _ _ _ _ _ c.in-Ok.ensures.step.kept h) in
+    let here = subst (λ (t : ℕ). Gives g.C.Chunks.came t c.begin.new.self.kinds w c.begin.new.chunks) (sym c.in-Ok.ensures.table) (subst (λ (k : List Kind). Gives g.C.Chunks.came c.args.self.now.table k w c.begin.new.chunks) (sym c.in-Ok.ensures.kinds) later) in
+    subst (λ (l : List Entry). IfOk c.change.result (λ r. Gave r l (changes_of all c.change.new.self) × MergesOver w all c.change.new.self)) (ap₂ (λ (v : Wanted) (d : Option Bytes). changes_left v d all) c.in-Ok.ensures.wanted c.in-Ok.ensures.last) (c.change.ensures.world w all here (c.in-Ok.ensures.world w all gives m))
+
+pub returns-clause-step : goal.returns-clause-step
+returns-clause-step g c =
+    let two = rw c.in-Ok.ensures.table at c.change.ensures.step in
+    step-then _ _ (record { same = g.met.C.Chunks.kept_same; chain = g.met.C.Chunks.kept_chain; later = g.met.C.Chunks.came_later; earlier = g.met.C.Chunks.came_earlier }) _ _ _ _ _ _ _ _ _ _ _ c.in-Ok.ensures.step two
+
+pub returns-clause-fault : goal.returns-clause-fault
+returns-clause-fault g c =
+    let two = rw (c.in-Ok.ensures.table, c.in-Ok.ensures.kinds) at c.change.ensures.fault in
+    let kept = (rw c.in-Ok.ensures.table at c.change.ensures.step).kept in
+    if-err _ _ (record { same = g.met.C.Chunks.kept_same; chain = g.met.C.Chunks.kept_chain; later = g.met.C.Chunks.came_later; earlier = g.met.C.Chunks.came_earlier }) c.args.self.now.table c.change.result _ _ (λ f h. fault-then _ _ (record { same = g.met.C.Chunks.kept_same; chain = g.met.C.Chunks.kept_chain; later = g.met.C.Chunks.came_later; earlier = g.met.C.Chunks.came_earlier }) _ _ _ _ _ _ _ _ c.in-Ok.ensures.step.kept kept c.in-Ok.ensures.step.held h) two
+
+pub returns-clause-put : goal.returns-clause-put
+returns-clause-put g c =
+    let two = rw c.in-Ok.ensures.table at c.change.ensures.put in
+    let kept = (rw c.in-Ok.ensures.table at c.change.ensures.step).kept in
+    if-put _ _ (record { same = g.met.C.Chunks.kept_same; chain = g.met.C.Chunks.kept_chain; later = g.met.C.Chunks.came_later; earlier = g.met.C.Chunks.came_earlier }) c.args.self.now.table c.change.result _ _ (λ e h. of-held-then _ _ (record { same = g.met.C.Chunks.kept_same; chain = g.met.C.Chunks.kept_chain; later = g.met.C.Chunks.came_later; earlier = g.met.C.Chunks.came_earlier }) _ _ _ _ _ _ _ c.in-Ok.ensures.step.kept kept c.in-Ok.ensures.step.held h) two
+
+pub returns-clause-sound : goal.returns-clause-sound
+returns-clause-sound g c = λ w all gives m.
+    let later : Gives g.C.Chunks.came c.args.self.now.table c.args.self.now.kinds w c.begin.new.chunks = λ to layer number bytes h. gives to layer number bytes (g.met.C.Chunks.came_later _ _ _ _ _ _ _ c.in-Ok.ensures.step.kept h) in
+    let here = subst (λ (t : ℕ). Gives g.C.Chunks.came t c.begin.new.self.kinds w c.begin.new.chunks) (sym c.in-Ok.ensures.table) (subst (λ (k : List Kind). Gives g.C.Chunks.came c.args.self.now.table k w c.begin.new.chunks) (sym c.in-Ok.ensures.kinds) later) in
+    c.change.ensures.sound w all here (c.in-Ok.ensures.world w all gives m)

@@ -1,0 +1,2 @@
+pub mod MergeRuns
+pub mod NextChunks

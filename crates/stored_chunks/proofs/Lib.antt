@@ -1,0 +1,3 @@
+pub mod MergeParts
+pub mod Loading
+pub mod StoredParts
