@@ -2,3 +2,8 @@ pub mod DiskLaws
 pub mod ReadyLaws
 pub mod Settings
 pub mod LinesOf
+pub mod Lists
+pub mod Past
+pub mod Orders
+pub mod Extensions
+pub mod LongerScripts

@@ -12,7 +12,7 @@ use Rattle.history_model.specs.Histories.{Table}
 use Rattle.history_model.specs.Layers as recorded
 use Rattle.layer_model.specs.declared.names.LayerName.{LayerName}
 use Rattle.layer_model.specs.Names.{IsLayerName}
-use Rattle.layer_model.specs.Layers.{Layer}
+use Rattle.layer_model.specs.Layers.{LayerObjects}
 use Rattle.layer_model.specs.Stands.{IsProper}
 use Rattle.layer_objects.specs.Objects.{objects_of}
 use Rattle.machine_model.specs.Machine.{Backup, Job, Machine, Restore}
@@ -32,18 +32,18 @@ in-cons y x ys h = ⊎_elim
 -- ---- the layers of jobs
 
 -- the layer is that of the backup at a place, and can be stored
-pub record IsMade (cluster : List ℕ) (tables : List Table) (n : ℕ) (jobs : List Job) (w : Layer) : Type 0 where
+pub record IsMade (cluster : List ℕ) (tables : List Table) (n : ℕ) (jobs : List Job) (w : LayerObjects) : Type 0 where
   pub place : ℕ
-  pub backup : recorded.Layer
+  pub backup : recorded.LayerRecord
   pub got : slice_get jobs place ≡ Some (Backup backup)
   pub is : objects_of tables backup ≡ w
   pub stored : can_be_stored cluster (n + place) w ≡ true
 
 module _ (cluster : List ℕ) (tables : List Table) where
-  later-made : (n : ℕ) (job : Job) (jobs : List Job) (w : Layer) → IsMade cluster tables (n + 1) jobs w → IsMade cluster tables n (job ∷ jobs) w
+  later-made : (n : ℕ) (job : Job) (jobs : List Job) (w : LayerObjects) → IsMade cluster tables (n + 1) jobs w → IsMade cluster tables n (job ∷ jobs) w
   later-made n job jobs w m = record { place = suc m.place; backup = m.backup; got = m.got; is = m.is; stored = (let e : n + suc m.place ≡ n + 1 + m.place = omega arith in rw e m.stored) }
 
-  pub made-of : (n : ℕ) (jobs : List Job) (w : Layer) → Contains (layers_from cluster tables n jobs) w → IsMade cluster tables n jobs w
+  pub made-of : (n : ℕ) (jobs : List Job) (w : LayerObjects) → Contains (layers_from cluster tables n jobs) w → IsMade cluster tables n jobs w
   made-of n [] w h = absurd (none-in w h)
   made-of n (Restore ∷ jobs) w h = later-made n Restore jobs w (made-of (n + 1) jobs w h)
   made-of n (Backup r ∷ jobs) w h = by (can_be_stored cluster n (objects_of tables r)) refl h (λ there. later-made n (Backup r) jobs w (made-of (n + 1) jobs w there))
@@ -56,13 +56,13 @@ module _ (cluster : List ℕ) (tables : List Table) where
       by true can there later = ⊎_elim (λ (is : objects_of tables r ≡ w). first can is) later (in-cons (objects_of tables r) w _ there)
       by false can there later = later there
 
-  pub is-among : (n : ℕ) (jobs : List Job) (place : ℕ) (r : recorded.Layer) → slice_get jobs place ≡ Some (Backup r) → can_be_stored cluster (n + place) (objects_of tables r) ≡ true → Contains (layers_from cluster tables n jobs) (objects_of tables r)
+  pub is-among : (n : ℕ) (jobs : List Job) (place : ℕ) (r : recorded.LayerRecord) → slice_get jobs place ≡ Some (Backup r) → can_be_stored cluster (n + place) (objects_of tables r) ≡ true → Contains (layers_from cluster tables n jobs) (objects_of tables r)
   is-among n [] place r got can = absurd (let no : None ≡ Some (Backup r) = got in cc no)
   is-among n (Restore ∷ jobs) zero r got can = absurd (let no : Some Restore ≡ Some (Backup r) = got in cc no)
   is-among n (Restore ∷ jobs) (suc place) r got can = is-among (n + 1) jobs place r got (let e : n + suc place ≡ n + 1 + place = omega arith in rw (← e) can)
   is-among n (Backup q ∷ jobs) zero r got can = let same : q ≡ r = cc got in let e : n + 0 ≡ n = omega arith in
       let here : can_be_stored cluster n (objects_of tables q) ≡ true = rw (same, ← e) can in
-      rw here (subst (λ (x : recorded.Layer). Contains (objects_of tables q ∷ layers_from cluster tables (n + 1) jobs) (objects_of tables x)) same (Contains-append_left (objects_of tables q ∷ []) (layers_from cluster tables (n + 1) jobs) (objects_of tables q) (Contains-push [] (objects_of tables q))))
+      rw here (subst (λ (x : recorded.LayerRecord). Contains (objects_of tables q ∷ layers_from cluster tables (n + 1) jobs) (objects_of tables x)) same (Contains-append_left (objects_of tables q ∷ []) (layers_from cluster tables (n + 1) jobs) (objects_of tables q) (Contains-push [] (objects_of tables q))))
   is-among n (Backup q ∷ jobs) (suc place) r got can = more (can_be_stored cluster n (objects_of tables q)) (is-among (n + 1) jobs place r got (let e : n + suc place ≡ n + 1 + place = omega arith in rw (← e) can))
     where
       more : (b : Bool) → Contains (layers_from cluster tables (n + 1) jobs) (objects_of tables r) → Contains (kept_if b (objects_of tables q) (layers_from cluster tables (n + 1) jobs)) (objects_of tables r)
@@ -78,13 +78,13 @@ time-is : (t : Time) → is_time t ≡ true → IsTime t
 time-is t e = let p = both_true (nat_lt t.wall (2 ^ 64)) (nat_le t.logical 2147483647) e in (let a = p.0 in grind (arith, nat_tests, a), let b = p.1 in grind (arith, nat_tests, b))
 
 -- what the test of a layer of a job says
-pub record IsFit (cluster : List ℕ) (job : ℕ) (w : Layer) : Type 0 where
+pub record IsFit (cluster : List ℕ) (job : ℕ) (w : LayerObjects) : Type 0 where
   pub name : IsLayerName w.name
   pub own : w.name.cluster ≡ cluster
   pub number : w.name.job ≡ job
   pub few : length w.chunks ≤ 1000000
 
-pub fits : (cluster : List ℕ) (job : ℕ) (w : Layer) → can_be_stored cluster job w ≡ true → IsFit cluster job w
+pub fits : (cluster : List ℕ) (job : ℕ) (w : LayerObjects) → can_be_stored cluster job w ≡ true → IsFit cluster job w
 fits cluster job w e =
     let p = both_true (is_named_for cluster job w) (nat_le (length w.chunks) 1000000) e in
     let q = both_true (is_name w.name.collection && (is_name w.name.cluster && bytes_eq w.name.cluster cluster)) ((is_time w.name.full && (is_time w.name.start && is_time w.name.end)) && (w.name.job == job && nat_lt job (2 ^ 32))) p.0 in
@@ -105,7 +105,7 @@ fits cluster job w e =
 time-test : (t : Time) → IsTime t → is_time t ≡ true
 time-test t is = let a = is.0 in let b = is.1 in let x : nat_lt t.wall (2 ^ 64) ≡ true = grind (arith, nat_tests, a) in let y : nat_le t.logical 2147483647 ≡ true = grind (arith, nat_tests, b) in rw (x, y) refl
 
-pub is-fit : (cluster : List ℕ) (job : ℕ) (w : Layer) → IsFit cluster job w → can_be_stored cluster job w ≡ true
+pub is-fit : (cluster : List ℕ) (job : ℕ) (w : LayerObjects) → IsFit cluster job w → can_be_stored cluster job w ≡ true
 is-fit cluster job w f =
     let own : bytes_eq w.name.cluster cluster ≡ true = (bytes_eq-Decides w.name.cluster cluster).1 f.own in
     let number : (w.name.job == job) ≡ true = (let e = f.number in grind (arith, nat_tests, e)) in
@@ -116,17 +116,17 @@ is-fit cluster job w f =
 -- ---- settings
 
 module _ (m : Machine) where
-  pub made : (w : Layer) → Contains (made_layers m) w → IsMade m.name m.history.tables 1 m.jobs w
+  pub made : (w : LayerObjects) → Contains (made_layers m) w → IsMade m.name m.history.tables 1 m.jobs w
   unfolding made_layers
   made w h = made-of m.name m.history.tables 1 m.jobs w h
 
-  fit : (w : Layer) (h : Contains (made_layers m) w) → IsFit m.name (1 + (made w h).place) w
+  fit : (w : LayerObjects) (h : Contains (made_layers m) w) → IsFit m.name (1 + (made w h).place) w
   fit w h = fits m.name (1 + (made w h).place) w (made w h).stored
 
-  one-backup : (i j : ℕ) (q r : recorded.Layer) → slice_get m.jobs i ≡ Some (Backup q) → slice_get m.jobs j ≡ Some (Backup r) → i ≡ j → q ≡ r
+  one-backup : (i j : ℕ) (q r : recorded.LayerRecord) → slice_get m.jobs i ≡ Some (Backup q) → slice_get m.jobs j ≡ Some (Backup r) → i ≡ j → q ≡ r
   one-backup i j q r a b same = let e : Some (Backup q) ≡ Some (Backup r) = sym a ∙ (ap (slice_get m.jobs) same ∙ b) in cc e
 
-  once : (v w : Layer) → Contains (made_layers m) v → Contains (made_layers m) w → v.name ≡ w.name → v ≡ w
+  once : (v w : LayerObjects) → Contains (made_layers m) v → Contains (made_layers m) w → v.name ≡ w.name → v ≡ w
   once v w hv hw same =
       let mv = made v hv in
       let mw = made w hw in
@@ -146,6 +146,6 @@ module _ (m : Machine) where
   }
 
   -- the layer of a backup that can be stored
-  pub is-made : (place : ℕ) (r : recorded.Layer) → slice_get m.jobs place ≡ Some (Backup r) → IsFit m.name (1 + place) (objects_of m.history.tables r) → Contains (made_layers m) (objects_of m.history.tables r)
+  pub is-made : (place : ℕ) (r : recorded.LayerRecord) → slice_get m.jobs place ≡ Some (Backup r) → IsFit m.name (1 + place) (objects_of m.history.tables r) → Contains (made_layers m) (objects_of m.history.tables r)
   unfolding made_layers
   is-made place r got f = is-among m.name m.history.tables 1 m.jobs place r got (is-fit m.name (1 + place) (objects_of m.history.tables r) f)

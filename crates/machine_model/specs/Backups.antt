@@ -7,15 +7,14 @@ use Rattle.table_descriptors.specs.declared.scopes.Scope.{Scope}
 use Rattle.table_descriptors.specs.declared.scopes.Scope.TheVariants.{Database, Tables}
 use Rattle.table_descriptors.specs.Descriptors.{Schema}
 use Rattle.history_model.specs.Histories.{schemas_of, is_named}
-use Rattle.history_model.specs.Layers.{Layer}
+use Rattle.history_model.specs.Layers.{LayerRecord}
 use Rattle.schema_catalog.specs.Catalogs.{Schemas, has_database, missing_fault, offline_fault}
 use Rattle.introduced_spans.specs.declared.plans.PlanFault.{PlanFault}
 use Rattle.introduced_spans.specs.declared.plans.PlanFault.TheVariants as plan
 use Rattle.introduced_spans.specs.Spans.{descriptors_of, plan_fault, table_ids}
 use Rattle.layer_manifest.specs.declared.manifest.Manifest.{Manifest}
 use Rattle.layer_manifest.specs.Manifests.{chunk_count, entry_count}
-use Rattle.layer_objects.specs.Objects.{by_id, name_of, table_threshold}
-use Rattle.layer_objects.specs.Storable.{manifest_of}
+use Rattle.layer_objects.specs.Objects.{by_id, manifest_of, name_of_record, table_threshold}
 use Rattle.layer_book.specs.Books.{same_name}
 use Rattle.layer_book.specs.Subdirectories.{last_full_of, layers_of, subdirectories_of}
 use Rattle.script_grammar.specs.declared.backups.Src.{Src}
@@ -41,7 +40,7 @@ abbrev pub next_job : Machine → ℕ
 next_job m = length m.jobs + 1
 
 -- the record of a full backup
-abbrev pub full_layer : Machine → List ℕ → Scope → Time → Layer
+abbrev pub full_layer : Machine → List ℕ → Scope → Time → LayerRecord
 full_layer m collection scope end = record {
   collection = collection;
   cluster = m.name;
@@ -57,7 +56,7 @@ full_layer m collection scope end = record {
 
 -- the greatest end of a full backup in an own subdirectory of the collection, or zero
 abbrev pub last_full : Machine → List ℕ → Time
-last_full m collection = last_full_of name_of collection m.layers
+last_full m collection = last_full_of name_of_record collection m.layers
 
 -- the end isn't after that
 abbrev pub end_refusal : Machine → List ℕ → Time → Option Refusal
@@ -73,10 +72,10 @@ abbrev pub plan_refusal : Machine → Scope → Time → Option Refusal
 plan_refusal m scope end = option_and_then refusal_of_plan (plan_fault (schemas_of m.history.tables) scope zero_time end false (by_id zero_time table_threshold m.history.tables))
 
 -- the numbers of the layer are those of its manifest
-abbrev pub backup_done : Layer → Manifest → Answer
+abbrev pub backup_done : LayerRecord → Manifest → Answer
 backup_done r manifest = BackupDone r.job r.cluster r.full r.start r.end (entry_count manifest.tables) (chunk_count manifest.tables)
 
-abbrev pub with_backup : Machine → Time → Layer → Machine
+abbrev pub with_backup : Machine → Time → LayerRecord → Machine
 with_backup m clock r = record m { clock = clock; layers = m.layers ++ r ∷ []; jobs = m.jobs ++ Backup r ∷ [] }
 
 -- a full backup, where a first list of tests refuses nothing
@@ -111,7 +110,7 @@ backup_tables m names collection at = ending m at (λ end clock.
 
 -- the subdirectories of a collection that have an own layer
 abbrev pub own_subdirectories : Machine → List ℕ → List (List ℕ × Time)
-own_subdirectories m collection = subdirectories_of name_of collection m.layers
+own_subdirectories m collection = subdirectories_of name_of_record collection m.layers
 
 -- SHOW BACKUPS
 unfoldable pub show_backups : Machine → List ℕ → Stepped
@@ -132,15 +131,15 @@ abbrev pub with_source : Machine → Src → List ℕ → (List ℕ × Time → 
 with_source m source collection change = with_found m NoSuchBackup (source_among source (own_subdirectories m collection)) change
 
 -- its layers by start, end, job
-abbrev pub layers_in : Machine → List ℕ → List ℕ × Time → List Layer
-layers_in m collection s = layers_of name_of collection s.0 s.1 m.layers
+abbrev pub layers_in : Machine → List ℕ → List ℕ × Time → List LayerRecord
+layers_in m collection s = layers_of name_of_record collection s.0 s.1 m.layers
 
-abbrev pub is_between_times : Time → Time → Layer → Bool
+abbrev pub is_between_times : Time → Time → LayerRecord → Bool
 is_between_times start end r = time_eq r.start start && time_eq r.end end
 
 -- without the layer of that name
-abbrev pub forgetting : Machine → Layer → Machine
-forgetting m r = record m { layers = filter (λ x. not (same_name (name_of x) (name_of r))) m.layers }
+abbrev pub forgetting : Machine → LayerRecord → Machine
+forgetting m r = record m { layers = filter (λ x. not (same_name (name_of_record x) (name_of_record r))) m.layers }
 
 -- FORGET
 unfoldable pub forget : Machine → Src → List ℕ → Time → Time → Stepped

@@ -9,3 +9,5 @@ pub mod Script
 pub mod Disks
 pub mod Past
 pub mod LineLaws
+pub mod Orders
+pub mod Extensions

@@ -8,7 +8,7 @@ use Rattle.reply_texts.specs.declared.replies.Response.{Response}
 use Rattle.reply_texts.specs.declared.replies.Response.TheVariants.{Refused, Answered}
 use Rattle.table_descriptors.specs.Descriptors.{Schema}
 use Rattle.history_model.specs.Histories.{History, Found, named, schemas_of}
-use Rattle.history_model.specs.Layers.{Layer}
+use Rattle.history_model.specs.Layers.{LayerRecord}
 use Rattle.schema_catalog.specs.Catalogs.{Schemas, is_offline}
 
 -- how many facts may ever be accepted, and how many table ids given
@@ -20,11 +20,11 @@ pub record Limits : Type 0 where
 pub record World : Type 0 where
   pub name : List ℕ
   pub history : History
-  pub layers : List Layer
+  pub layers : List LayerRecord
 
 -- a job: the backup that made a layer, or a restore. Its number is its place among the jobs, from 1 on.
 pub data Job : Type 0 where
-  Backup : Layer → Job
+  Backup : LayerRecord → Job
   Restore : Job
 
 -- The state of the cluster. Its own layers are those of its backups, without those that were forgotten. Each job is done.
@@ -33,7 +33,7 @@ pub record Machine : Type 0 where
   pub limits : Limits
   pub clock : Time
   pub history : History
-  pub layers : List Layer
+  pub layers : List LayerRecord
   pub jobs : List Job
 
 -- its databases and its tables without their facts
@@ -96,8 +96,8 @@ with_found m refusal None change = refused m refusal
 with_found m refusal (Some x) change = change x
 
 -- what is done with the table to which the name belongs at t
-abbrev pub with_table : Machine → List ℕ × List ℕ → Time → (Found → Stepped) → Stepped
-with_table m name t change = with_found m (NoSuchTable name) (named m.history.tables name t) change
+abbrev pub for_table : Machine → List ℕ × List ℕ → Time → (Found → Stepped) → Stepped
+for_table m name t change = with_found m (NoSuchTable name) (named m.history.tables name t) change
 
 -- the table of the name is Offline
 abbrev pub offline_refusal : List ℕ × List ℕ → Schema → Option Refusal

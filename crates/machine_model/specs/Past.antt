@@ -1,8 +1,8 @@
 -- No command changes what was true up to the clock.
 use Rattle.std.specs.Prelude.{◌≡◌, ◌⊎◌, ◌<◌, true, List, ◌++◌, length, Option, Some, None}
 use Rattle.mvcc_keys.specs.Times.{time_le}
-use Rattle.list_laws.specs.Members.{Has as IsIn}
-use Rattle.history_model.specs.Layers.{Layer}
+use Rattle.list_laws.specs.Members.{Has}
+use Rattle.history_model.specs.Layers.{LayerRecord}
 use Rattle.layer_objects.specs.Past.{KeepsPast}
 use Rattle.command_lang.specs.declared.command.Command.{Command}
 use Rattle.machine_model.specs.Machine.{World, Job, Machine}
@@ -16,7 +16,7 @@ pub record IsLater (old new : Machine) : Type 0 where
   pub tables : KeepsPast old.clock old.history.tables new.history.tables
   pub more : List Job
   pub jobs : new.jobs ≡ old.jobs ++ more
-  pub layers : (r : Layer) → IsIn r new.layers → IsIn r old.layers ⊎ (length old.jobs < r.job)
+  pub layers : (r : LayerRecord) → Has r new.layers → Has r old.layers ⊎ (length old.jobs < r.job)
 
 -- the same, where there may be no cluster yet
 abbrev pub IsLaterIn : Option Machine → Option Machine → Type 0

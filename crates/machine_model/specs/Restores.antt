@@ -9,7 +9,7 @@ use Rattle.fact_model.specs.Facts.{Put}
 use Rattle.fact_model.specs.Scans.{scan}
 use Rattle.history_model.specs.Rows.{RowFact, RowItem}
 use Rattle.history_model.specs.Histories.{Table, in_force, key_order, schemas_of}
-use Rattle.history_model.specs.Layers.{Layer}
+use Rattle.history_model.specs.Layers.{LayerRecord}
 use Rattle.introduced_spans.specs.Publicity.{is_public}
 use Rattle.introduced_spans.specs.Spans.{descriptors_of, scope_ids}
 use Rattle.layer_objects.specs.Objects.{by_id, table_facts}
@@ -36,14 +36,14 @@ use Rattle.machine_model.specs.Backups.{layers_in, next_job, with_source}
 -- ---- the chain
 
 -- what a chain is found by
-abbrev pub link_of : Layer → chain.Layer
+abbrev pub link_of : LayerRecord → chain.Layer
 link_of r = record { start = r.start; end = r.end; floor = r.floor; history = r.history }
 
-abbrev pub links_of : List Layer → List chain.Layer
+abbrev pub links_of : List LayerRecord → List chain.Layer
 links_of rs = map link_of rs
 
 -- the time that is given, or the greatest end of some layers
-abbrev pub time_of : List Layer → Option Time → Time
+abbrev pub time_of : List LayerRecord → Option Time → Time
 time_of rs at = unwrap_or at (or_zero (latest (ends_of (links_of rs))))
 
 -- no cover tells of want of memory
@@ -55,10 +55,10 @@ refusal_of_cover (cover.Gap reached wants) = Gap reached wants
 refusal_of_cover cover.Memory = NoSuchBackup
 
 -- the layers at these places
-abbrev pub layers_at : List Layer → List ℕ → List Layer
+abbrev pub layers_at : List LayerRecord → List ℕ → List LayerRecord
 layers_at rs places = filter_map (slice_get rs) places
 
-abbrev pub with_cover : Machine → List Layer → Cover → (List Layer → Stepped) → Stepped
+abbrev pub with_cover : Machine → List LayerRecord → Cover → (List LayerRecord → Stepped) → Stepped
 with_cover m rs (Chain places) change = change (layers_at rs places)
 with_cover m rs (Uncovered fault) change = refused m (refusal_of_cover fault)
 
@@ -76,7 +76,7 @@ abbrev pub chosen_by : List ℕ → Time → List Schema → Option Schema
 chosen_by database t ds = option_and_then (if_chosen database) (in_force ds t)
 
 -- the tables of the database that a layer shows public at t, by their descriptors, ids ascending
-unfoldable pub chosen_tables : List Table → List ℕ → Time → Layer → List Schema
+unfoldable pub chosen_tables : List Table → List ℕ → Time → LayerRecord → List Schema
 chosen_tables tables database t r = filter_map (λ id. chosen_by database t (descriptors_of (schemas_of tables) id)) (scope_ids (schemas_of tables) r.scope)
 
 -- the rows of a chosen table
@@ -121,21 +121,21 @@ with_restored m database tables clock = record m { clock = clock; history = reco
 abbrev pub restored_as : List (ℕ × ℕ) → Target → Schema → RestoredTable
 restored_as ids to d = record { old = d.id; new = new_id ids d.id; table = target_name to d }
 
-abbrev pub span_of : Layer → Time × Time
+abbrev pub span_of : LayerRecord → Time × Time
 span_of r = (r.start, r.end)
 
-abbrev pub restore_done : Machine → Target → Time → Time → List Layer → List Schema → Answer
+abbrev pub restore_done : Machine → Target → Time → Time → List LayerRecord → List Schema → Answer
 restore_done m to t at rs chosen = RestoreDone (next_job m) t at (count_to_restore m.history.tables t chosen) (map span_of rs) (map (restored_as (new_ids (catalog_of m) chosen) to) chosen)
 
 -- a restore of chosen tables from a chain, in a new database
-abbrev pub restore_chosen : Machine → List ℕ → Time → Time → Time → List Layer → List Schema → Stepped
+abbrev pub restore_chosen : Machine → List ℕ → Time → Time → Time → List LayerRecord → List Schema → Stepped
 restore_chosen m database t at published rs chosen =
     let to = target.Database database in
     judged m (nothing_refusal chosen ∷ option_and_then refusal_of_remap (remap_fault (catalog_of m) chosen to false at) ∷ room_refusal m (count_to_restore m.history.tables t chosen) ∷ [])
     (answered (with_restored m database (map (restored_table m.history.tables (new_ids (catalog_of m) chosen) to t at published) chosen) published) (restore_done m to t at rs chosen))
 
 -- a chain has a last layer
-abbrev pub restore_chain : Machine → List ℕ → List ℕ → Time → Time → Time → List Layer → Stepped
+abbrev pub restore_chain : Machine → List ℕ → List ℕ → Time → Time → Time → List LayerRecord → Stepped
 restore_chain m database new t at published rs = with_found m NothingToRestore (last_of rs) (λ r. restore_chosen m new t at published rs (chosen_tables m.history.tables database t r))
 
 -- RESTORE DATABASE: it draws the time of its tables and rows, and the time at which they are public

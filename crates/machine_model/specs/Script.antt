@@ -82,8 +82,8 @@ abbrev pub command_step : List World → Option Machine → Command → Option S
 command_step worlds None c = first_step worlds c
 command_step worlds (Some m) c = Some (step worlds m c)
 
-abbrev pub machine_of : Option Stepped → Option Machine
-machine_of s = option_map (λ (x : Stepped). x.machine) s
+abbrev pub machine_in : Option Stepped → Option Machine
+machine_in s = option_map (λ (x : Stepped). x.machine) s
 
 abbrev pub response_of : Option Stepped → Option Response
 response_of s = option_map (λ (x : Stepped). x.response) s
@@ -102,7 +102,7 @@ reading_before worlds n m (Malformed column) o = malformed_at n column m
 -- the machine after a line
 abbrev pub machine_after : List World → Option Machine → Reading → Option Machine
 machine_after worlds m Skipped = m
-machine_after worlds m (Reads c) = machine_of (command_step worlds m c)
+machine_after worlds m (Reads c) = machine_in (command_step worlds m c)
 machine_after worlds m (Malformed column) = m
 
 -- what the machine reads of a line

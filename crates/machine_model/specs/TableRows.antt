@@ -13,7 +13,7 @@ use Rattle.history_model.specs.Rows.{Key, RowFact, put_of, shown_rows}
 use Rattle.history_model.specs.Histories.{Table, Found, key_order, accepted}
 use Rattle.table_rows.specs.declared.faults.RowsFault.{RowsFault}
 use Rattle.table_rows.specs.Checks.{rows_fault, keys_fault, range_fault}
-use Rattle.machine_model.specs.Machine.{Machine, Stepped, answered, refusal_if, judged, drawing, with_table, offline_refusal}
+use Rattle.machine_model.specs.Machine.{Machine, Stepped, answered, refusal_if, judged, drawing, for_table, offline_refusal}
 use Rattle.machine_model.specs.Refusals.{rows_refusal}
 
 -- ---- UPSERT, DELETE, DELETE RANGE
@@ -33,7 +33,7 @@ with_facts m f facts t = record m { clock = t; history = record m.history { tabl
 -- descriptor and the drawn time.
 abbrev pub adding : Machine → List ℕ × List ℕ → (Schema → Option RowsFault) → (Schema → Time → List RowFact) → (Time → Answer) → Stepped
 adding m name fault facts answer =
-    drawing m (λ t. with_table m name t (λ f.
+    drawing m (λ t. for_table m name t (λ f.
     judged m (offline_refusal name f.schema ∷ rows_refusal (fault f.schema) ∷ room_refusal m (length (facts f.schema t)) ∷ [])
     (answered (with_facts m f (facts f.schema t) t) (answer t))))
 
@@ -66,7 +66,7 @@ collected_refusal table t = refusal_if (time_lt t table.threshold) (Collected ta
 abbrev pub select_at : Machine → List ℕ × List ℕ → Time → Stepped
 select_at m name t =
     judged m (future_refusal m t ∷ [])
-    (with_table m name t (λ f. judged m (offline_refusal name f.schema ∷ collected_refusal f.table t ∷ []) (answered m (RowsShown (rows_at f t)))))
+    (for_table m name t (λ f. judged m (offline_refusal name f.schema ∷ collected_refusal f.table t ∷ []) (answered m (RowsShown (rows_at f t)))))
 
 -- SELECT, as of the time that is given, or of the clock
 unfoldable pub select : Machine → List ℕ × List ℕ → Option Time → Stepped
@@ -84,6 +84,6 @@ with_threshold m f threshold = record m { history = record m.history { tables = 
 -- GC
 unfoldable pub collect : Machine → List ℕ × List ℕ → Time → Stepped
 collect m name g =
-    with_table m name m.clock (λ f.
+    for_table m name m.clock (λ f.
     judged m (offline_refusal name f.schema ∷ future_refusal m g ∷ [])
     (answered (with_threshold m f (raised f.table.threshold g)) (ThresholdRaised (raised f.table.threshold g))))

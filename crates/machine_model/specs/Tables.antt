@@ -9,7 +9,7 @@ use Rattle.reply_texts.specs.declared.refusals.Refusal.TheVariants.{TickBack}
 use Rattle.reply_texts.specs.declared.answers.Answer.TheVariants.{Plain, ClockSet, TableMade, TableChanged}
 use Rattle.history_model.specs.Histories.{Table, Found}
 use Rattle.schema_catalog.specs.Catalogs.{database_fault, table_fault, next_id, first_schema, change_fault, drop_fault, dropped}
-use Rattle.machine_model.specs.Machine.{Machine, Stepped, catalog_of, answered, refusal_if, judged, drawing, with_table, offline_refusal}
+use Rattle.machine_model.specs.Machine.{Machine, Stepped, catalog_of, answered, refusal_if, judged, drawing, for_table, offline_refusal}
 use Rattle.machine_model.specs.Refusals.{catalog_refusal}
 
 -- TICK sets the clock to the first time of a wall that is after it
@@ -54,13 +54,13 @@ redescribed m f d = answered (with_descriptor m f d) (TableChanged f.table.id d.
 -- ALTER TABLE
 unfoldable pub alter : Machine → List ℕ × List ℕ → Change → Stepped
 alter m name change =
-    drawing m (λ t. with_table m name t (λ f.
+    drawing m (λ t. for_table m name t (λ f.
     judged m (offline_refusal name f.schema ∷ catalog_refusal (change_fault (catalog_of m) t f.schema change) ∷ [])
     (redescribed m f (changed_schema f.schema change t))))
 
 -- DROP TABLE, also of a table that is Offline
 unfoldable pub drop_table : Machine → List ℕ × List ℕ → Stepped
 drop_table m name =
-    drawing m (λ t. with_table m name t (λ f.
+    drawing m (λ t. for_table m name t (λ f.
     judged m (catalog_refusal (drop_fault (catalog_of m) t (f.table.id ∷ [])) ∷ [])
     (redescribed m f (dropped f.schema t))))

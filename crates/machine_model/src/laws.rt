@@ -1,6 +1,9 @@
-//! What holds of every ready disk, and of every script.
+//! What holds of every ready disk, of every script, and of every step.
 ghost use Rattle.machine_model.specs.Disks.{CompleteIsDone, EmptyIsReady, OpenLayersAreKept};
+ghost use Rattle.machine_model.specs.Extensions.{AppendedScriptsGoOn, LaterMachinesStand, LongerScriptsStand, ScriptsEndByCommands};
 ghost use Rattle.machine_model.specs.LineLaws.{ScriptsAreTheirLines};
+ghost use Rattle.machine_model.specs.Orders.{StepsKeepOrder};
+ghost use Rattle.machine_model.specs.Past.{StepsAreLater};
 
 use outside_world::Disk;
 
@@ -26,4 +29,36 @@ pub fn complete_disks_are_done<D: Disk>()
 /// has a newline in it.
 pub fn scripts_are_their_lines()
     ensures { ScriptsAreTheirLines }
+{}
+
+/// A law: whatever the command, it changes nothing that was true up to the clock.
+pub fn steps_are_later()
+    ensures { StepsAreLater }
+{}
+
+/// A law: whatever the command, it leads from a machine whose tables and layers are dated up to
+/// the clock to another such machine.
+pub fn steps_keep_order()
+    ensures { StepsKeepOrder }
+{}
+
+/// A law: a script ends in the machine to which its commands lead one after the other.
+pub fn scripts_end_by_commands()
+    ensures { ScriptsEndByCommands }
+{}
+
+/// A law of extension: objects that stand for a machine stand for each later one.
+pub fn later_machines_stand()
+    ensures { LaterMachinesStand }
+{}
+
+/// A law of extension: objects that stand for a script stand for every script that goes on with
+/// further commands.
+pub fn longer_scripts_stand()
+    ensures { LongerScriptsStand }
+{}
+
+/// A law: what is written after a newline of a script adds commands to its commands.
+pub fn appended_scripts_go_on()
+    ensures { AppendedScriptsGoOn }
 {}

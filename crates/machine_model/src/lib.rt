@@ -5,7 +5,8 @@ mod laws;
 mod limits;
 
 pub use laws::{
-    complete_disks_are_done, empty_disks_are_ready, open_layers_are_the_machines,
-    scripts_are_their_lines,
+    appended_scripts_go_on, complete_disks_are_done, empty_disks_are_ready, later_machines_stand,
+    longer_scripts_stand, open_layers_are_the_machines, scripts_are_their_lines,
+    scripts_end_by_commands, steps_are_later, steps_keep_order,
 };
 pub use limits::{EVENTS_MAX, SCRIPT_BYTES_MAX, TABLES_MAX};
