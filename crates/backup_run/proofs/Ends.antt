@@ -5,8 +5,8 @@ use Rattle.command_lang.specs.Lines.{Reading, Skipped, Reads, Malformed}
 use Rattle.machine_model.specs.Machine.{World, Machine, Stepped}
 use Rattle.machine_model.specs.Step.{step}
 use Rattle.machine_model.specs.Past.{IsLaterIn}
-use Rattle.machine_model.specs.Script.{Line, Within, Beyond, Outcome, outcome, command_step, machine_after, machine_of, response_of, reading_before, reply_before, read_at}
-use Rattle.cluster_core.proofs.Past.{later-same, later-then, steps-later}
+use Rattle.machine_model.specs.Script.{Line, Within, Beyond, Outcome, outcome, command_step, machine_after, machine_in, response_of, reading_before, reply_before, read_at}
+use Rattle.machine_model.proofs.Past.{later-same, later-then, steps-later}
 
 pub answered-later : (worlds : List World) (m : Machine) (c : Command) (o : Option Machine) → IsLaterIn (Some (step worlds m c).machine) o → IsLaterIn (Some m) o
 answered-later worlds m c None later = absurd later
@@ -30,7 +30,7 @@ same-later : (m : Option Machine) → IsLaterIn m m
 same-later None = tt
 same-later (Some m) = later-same m
 
-reply-later : (worlds : List World) (n : ℕ) (s : Option Stepped) (ls : List Line) → IsLaterIn (machine_of s) (reply_before n (response_of s) (outcome worlds (n + 1) (machine_of s) ls)).machine
+reply-later : (worlds : List World) (n : ℕ) (s : Option Stepped) (ls : List Line) → IsLaterIn (machine_in s) (reply_before n (response_of s) (outcome worlds (n + 1) (machine_in s) ls)).machine
 reply-later worlds n None ls = tt
 reply-later worlds n (Some s) ls = ends-later worlds (n + 1) (Some s.machine) ls
 

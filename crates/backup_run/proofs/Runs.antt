@@ -6,9 +6,10 @@ use Rattle.outside_world.specs.Told.{told_before, before_told, AtEnd}
 use Rattle.outside_world.specs.Causes.{Rose}
 use Rattle.outside_world.specs.Disk.{View, IsImage, IsKnown}
 use Rattle.outside_world.specs.Objects.{Objects}
-use Rattle.outside_world.proofs.Runs.{only_none, only_then}
-use Rattle.machine_model.specs.Machine.{World}
-use Rattle.machine_model.specs.Disks.{IsReady}
+use Rattle.outside_world.proofs.Runs.{leaves_less, only_none, only_then}
+use Rattle.machine_model.specs.Machine.{Machine, World}
+use Rattle.machine_model.specs.Disks.{IsReady, StandsUntil}
+use Rattle.machine_model.proofs.LongerScripts.{longer-stand}
 use Rattle.machine_model.specs.Script.{Outcome, outcome, lines, script_outcome, whole_lines}
 use Rattle.backup_run.specs.declared.stops.Stop.{Stop}
 use Rattle.backup_run.specs.declared.stops.Stop.TheVariants.{Malformed, WriteFault, DiskFault, Memory}
@@ -50,9 +51,9 @@ running_next l0 l1 l2 h0 h1 h2 v0 v1 v2 a b c piece r is t = record {
 }
 
 -- where the run stands now, from the start, at which nothing was read
-now_at : (l0 l1 h0 h1 : Option (List ℕ)) (v0 v1 : View) (a b : Here) (worlds : List World) (whole : List ℕ → Outcome) (more : List ℕ) → (r : Running l0 l1 h0 h1 v0 v1 a b)
-    → SessionAt worlds a v0 whole [] [] (r.read ++ more) → SessionAt worlds b v1 whole r.read r.fed.text more
-now_at l0 l1 h0 h1 v0 v1 a b worlds whole more r s = r.fed.stands worlds whole [] [] more s
+now_at : (l0 l1 h0 h1 : Option (List ℕ)) (v0 v1 : View) (a b : Here) (worlds : List World) (began : Objects) (whole : List ℕ → Outcome) (more : List ℕ) → (r : Running l0 l1 h0 h1 v0 v1 a b)
+    → SessionAt worlds began a v0 whole [] [] (r.read ++ more) → SessionAt worlds began b v1 whole r.read r.fed.text more
+now_at l0 l1 h0 h1 v0 v1 a b worlds began whole more r s = r.fed.stands worlds began whole [] [] more s
 
 -- nothing was read
 pub ran_nothing : (left held : Option (List ℕ)) (v : View) (at : Here) → (IsKnown v → (image : Objects) → v.left_since v.moment image → IsImage v image) → Ran left left held held v v at NoMemory
@@ -61,8 +62,8 @@ ran_nothing left held v at only = record {
   written = [];
   source = told_no left;
   sink = sym (told_nothing held);
-  answers = λ worlds whole more tells s. ((whole more).text, refl);
-  leads = λ worlds whole more tells s. still s.machine (whole more).machine v only s.ready;
+  answers = λ worlds began whole more tells s. ((whole more).text, refl);
+  leads = λ worlds began whole more tells s. still s.machine (whole more).machine began v only s.ready.now;
   ready = λ no. absurd no;
   changes = only_none v;
 }
@@ -74,10 +75,10 @@ ran_unread l0 l1 l2 h0 h1 v0 v1 a b r is = record {
   written = r.fed.text;
   source = r.source ∙ ap (λ o. before_told r.read o) (sym is);
   sink = r.fed.wrote;
-  answers = λ worlds whole more left s.
-      let now = now_at l0 l1 h0 h1 v0 v1 a b worlds whole more r s in
+  answers = λ worlds began whole more left s.
+      let now = now_at l0 l1 h0 h1 v0 v1 a b worlds began whole more r s in
       (now.at.answers, begins_written r.fed.text (whole (r.read ++ more)) (outcome_of_rest worlds (at_of b now.machine) more) (now.at.goes_on more));
-  leads = λ worlds whole more left s. r.fed.leads worlds whole [] [] more s;
+  leads = λ worlds began whole more left s. r.fed.leads worlds began whole [] [] more s;
   ready = λ no. absurd no;
   changes = r.fed.changes;
 }
@@ -98,9 +99,9 @@ ran_stopped l0 l1 l2 h0 h1 h2 v0 v1 v2 a b piece stop r is t =
       written = w.text;
       source = r.source ∙ ap (λ o. before_told r.read o) is ∙ told_read l2 r.read piece;
       sink = w.wrote;
-      answers = λ worlds whole more left s. answers_stopped stop whole (r.read ++ piece) w.text more (w.ends worlds whole [] [] more s);
-      leads = λ worlds whole more left s. w.leads worlds whole [] [] more s;
-      ready = λ complete worlds whole more left s. w.ready complete worlds whole [] [] more s;
+      answers = λ worlds began whole more left s. answers_stopped stop whole (r.read ++ piece) w.text more (w.ends worlds began whole [] [] more s);
+      leads = λ worlds began whole more left s. w.leads worlds began whole [] [] more s;
+      ready = λ complete worlds began whole more left s. w.ready complete worlds began whole [] [] more s;
       changes = w.changes;
     }
 
@@ -132,24 +133,24 @@ ran_ended l0 l1 l2 h0 h1 h2 v0 v1 v2 a b nothing ending r is none end e = record
   written = r.fed.text ++ e.text;
   source = r.source ∙ ap (λ o. before_told r.read o) (is ∙ ap (λ (n : List ℕ). before_told n l2) none ∙ sym (told_no l2));
   sink = e.wrote ∙ ap (λ o. told_before o e.text) r.fed.wrote ∙ told_twice h0 r.fed.text e.text;
-  answers = λ worlds whole more left s.
-      let now = last worlds whole more left s in
+  answers = λ worlds began whole more left s.
+      let now = last worlds began whole more left s in
       subst (λ (x : List ℕ). Answers ending whole r.read x (r.fed.text ++ e.text)) (sym (only_end l2 more end left))
-      (answers_end ending whole r.read b.pending r.fed.text e.text (outcome_of_rest worlds (at_of b now.machine) []) now.split now.at.answers (now.at.goes_on []) (e.answers worlds now.machine (here worlds b v1 whole r.read r.fed.text [] now)));
-  leads = λ worlds whole more left s.
-      let now = last worlds whole more left s in
-      leads_then (whole (r.read ++ more)).machine v0 v1 v2 (r.fed.leads worlds whole [] [] more s)
-      (subst (λ (m : Outcome). Leads m.machine v1 v2) (sym (now.at.goes_on []) ∙ ap (λ (x : List ℕ). whole (r.read ++ x)) (sym (only_end l2 more end left)))
-      (e.leads worlds now.machine (here worlds b v1 whole r.read r.fed.text [] now)));
-  ready = λ complete worlds whole more left s.
-      let now = last worlds whole more left s in
+      (answers_end ending whole r.read b.pending r.fed.text e.text (outcome_of_rest worlds (at_of b now.machine) []) now.split now.at.answers (now.at.goes_on []) (e.answers worlds began now.machine (here worlds began b v1 whole r.read r.fed.text [] now)));
+  leads = λ worlds began whole more left s.
+      let now = last worlds began whole more left s in
+      leads_then (whole (r.read ++ more)).machine began v0 v1 v2 (r.fed.leads worlds began whole [] [] more s)
+      (subst (λ (m : Outcome). Leads m.machine began v1 v2) (sym (now.at.goes_on []) ∙ ap (λ (x : List ℕ). whole (r.read ++ x)) (sym (only_end l2 more end left)))
+      (e.leads worlds began now.machine (here worlds began b v1 whole r.read r.fed.text [] now)));
+  ready = λ complete worlds began whole more left s.
+      let now = last worlds began whole more left s in
       subst (λ (m : Outcome). IsReady m.machine m.machine v2) (sym (now.at.goes_on []) ∙ ap (λ (x : List ℕ). whole (r.read ++ x)) (sym (only_end l2 more end left)))
-      (e.ready complete worlds now.machine (here worlds b v1 whole r.read r.fed.text [] now));
+      (e.ready complete worlds began now.machine (here worlds began b v1 whole r.read r.fed.text [] now));
   changes = only_then r.fed.changes e.changes;
 }
   where
-    last : (worlds : List World) (whole : List ℕ → Outcome) (more : List ℕ) → l2 ≡ Some more → SessionAt worlds a v0 whole [] [] (r.read ++ more) → SessionAt worlds b v1 whole r.read r.fed.text []
-    last worlds whole more left s = subst (λ (x : List ℕ). SessionAt worlds b v1 whole r.read r.fed.text x) (only_end l2 more end left) (now_at l0 l1 h0 h1 v0 v1 a b worlds whole more r s)
+    last : (worlds : List World) (began : Objects) (whole : List ℕ → Outcome) (more : List ℕ) → l2 ≡ Some more → SessionAt worlds began a v0 whole [] [] (r.read ++ more) → SessionAt worlds began b v1 whole r.read r.fed.text []
+    last worlds began whole more left s = subst (λ (x : List ℕ). SessionAt worlds began b v1 whole r.read r.fed.text x) (only_end l2 more end left) (now_at l0 l1 h0 h1 v0 v1 a b worlds began whole more r s)
 
 -- ---- the whole script
 
@@ -165,9 +166,9 @@ stands_at : (worlds : List World) → StandsAt (script_outcome worlds) (outcome_
 stands_at worlds = record { goes_on = λ more. start_is_script worlds more; answers = nothing_said worlds }
 
 -- a run begins where nothing was read and nothing written
-stands_first : (worlds : List World) (v : View) (script : List ℕ) → IsReady None (script_outcome worlds script).machine v → SessionAt worlds at_first v (script_outcome worlds) [] [] script
+stands_first : (worlds : List World) (v : View) (script : List ℕ) → IsReady None (script_outcome worlds script).machine v → SessionAt worlds v.objects at_first v (script_outcome worlds) [] [] script
 unfolding at_first
-stands_first worlds v script ready = record { machine = None; stands = tt; at = stands_at worlds; split = refl; ready = ready }
+stands_first worlds v script ready = record { machine = None; stands = tt; at = stands_at worlds; split = refl; ready = record { now = ready; ahead = refl } }
 
 told_left : (script read : List ℕ) (left : Option (List ℕ)) → Some script ≡ before_told read left → (rest : List ℕ) × (left ≡ Some rest) × (script ≡ read ++ rest)
 told_left script read None e = absurd cc
@@ -177,7 +178,8 @@ pub runs_script : (code : ℕ) (worlds : List World) (script held : List ℕ) (l
     → IsReady None (script_outcome worlds script).machine v0 → Ran l0 l1 h0 h1 v0 v1 at_first ending → RunsScript worlds l1 h1 v0 v1 script held code
 runs_script code worlds script held l0 l1 h0 h1 v0 v1 ending status tells holds ready r =
     let t = told_left script r.read l1 (sym tells ∙ r.source) in
-    let s = subst (λ (bs : List ℕ). SessionAt worlds at_first v0 (script_outcome worlds) [] [] bs) t.2 (stands_first worlds v0 script ready) in
+    let s = subst (λ (bs : List ℕ). SessionAt worlds v0.objects at_first v0 (script_outcome worlds) [] [] bs) t.2 (stands_first worlds v0 script ready) in
+    let leads = subst (λ (bs : List ℕ). Leads (script_outcome worlds bs).machine v0.objects v0 v1) (sym t.2) (r.leads worlds v0.objects (script_outcome worlds) t.0 t.1 s) in
     record {
       ending = ending;
       read = r.read;
@@ -187,9 +189,10 @@ runs_script code worlds script held l0 l1 h0 h1 v0 v1 ending status tells holds 
       split = t.2;
       left = t.1;
       got = r.sink ∙ ap (λ o. told_before o r.written) holds;
-      answers = r.answers worlds (script_outcome worlds) t.0 t.1 s;
-      leads = subst (λ (bs : List ℕ). Leads (script_outcome worlds bs).machine v0 v1) (sym t.2) (r.leads worlds (script_outcome worlds) t.0 t.1 s);
-      ready = λ complete. subst (λ (bs : List ℕ). IsReady (script_outcome worlds bs).machine (script_outcome worlds bs).machine v1) (sym t.2) (r.ready complete worlds (script_outcome worlds) t.0 t.1 s);
+      answers = r.answers worlds v0.objects (script_outcome worlds) t.0 t.1 s;
+      leads = leads;
+      ready = λ complete. subst (λ (bs : List ℕ). IsReady (script_outcome worlds bs).machine (script_outcome worlds bs).machine v1) (sym t.2) (r.ready complete worlds v0.objects (script_outcome worlds) t.0 t.1 s);
+      longer = λ longer m more is goes. leaves_less (λ image stands. longer-stand worlds script longer m more is goes image (subst (λ (o : Option Machine). StandsUntil o image) is stands)) leads.leaves;
     }
 
 -- ---- completeness

@@ -18,8 +18,9 @@ use Rattle.machine_model.specs.Disks.{IsReady}
 use Rattle.backup_run.specs.declared.stops.Stop.{Stop}
 use Rattle.backup_run.specs.declared.stops.Stop.TheVariants.{Malformed, WriteFault, DiskFault, Memory}
 use Rattle.backup_run.specs.declared.stops.Ending.TheVariants.{Unwritten, IllFormed}
-use Rattle.backup_run.specs.Endings.{AnswersFront, Begins, EndsBy, EndsLine, IsComplete, IsLast, IsLastAt, IsLineOfDisk, IsObjectName, IsWholeAt, Leads, WritesPart, done_ending, ending_of, stop_of}
-use Rattle.backup_run.specs.Run.{At, Here, at_of, SessionAt, StandsAt, IsHere, Fed, EndedIn, AtInputEnd, written_before, outcome_of_rest}
+use Rattle.backup_run.specs.Endings.{AnswersFront, Begins, EndsBy, EndsLine, IsComplete, IsLast, IsLastAt, IsLineOfDisk, IsWholeAt, Leads, WritesPart, done_ending, ending_of, stop_of}
+use Rattle.layer_model.specs.Names.{NamesObject}
+use Rattle.backup_run.specs.Run.{At, Here, at_of, SessionAt, StandsAt, IsHere, IsReadyFrom, Fed, EndedIn, AtInputEnd, written_before, outcome_of_rest}
 use Rattle.backup_run.proofs.Telling.{told_twice, told_nothing}
 use Rattle.backup_run.proofs.Bytes.{rest_nothing}
 use Rattle.backup_run.proofs.Saying.{BytesGo}
@@ -126,35 +127,35 @@ byte_stands a new b text worlds whole read front goes cleared quiet s = record {
 -- ---- one byte, and the disk
 
 -- what is asked of a byte, where the run stands there
-pub here : (worlds : List World) (a : Here) (v : View) (whole : List ℕ → Outcome) (read front xs : List ℕ) → (s : SessionAt worlds a v whole read front xs) → IsHere worlds a v s.machine xs
-here worlds a v whole read front xs s = record { stands = s.stands; ready = subst (λ (o : Outcome). IsReady s.machine o.machine v) (s.at.goes_on xs) s.ready }
+pub here : (worlds : List World) (began : Objects) (a : Here) (v : View) (whole : List ℕ → Outcome) (read front xs : List ℕ) → (s : SessionAt worlds began a v whole read front xs) → IsHere worlds began a v s.machine xs
+here worlds began a v whole read front xs s = record { stands = s.stands; ready = subst (λ (o : Outcome). IsReadyFrom began s.machine o.machine v) (s.at.goes_on xs) s.ready }
 
 -- what a byte, or the end of the input, does to the disk
 abbrev pub LeadsBy : Here → ℕ → View → View → Type 0
-LeadsBy a b v0 v1 = (worlds : List World) (m : Option Machine) (more : List ℕ) → IsHere worlds a v0 m (b ∷ more) → Leads (outcome_of_rest worlds (at_of a m) (b ∷ more)).machine v0 v1
+LeadsBy a b v0 v1 = (worlds : List World) (began : Objects) (m : Option Machine) (more : List ℕ) → IsHere worlds began a v0 m (b ∷ more) → Leads (outcome_of_rest worlds (at_of a m) (b ∷ more)).machine began v0 v1
 
 abbrev pub LeadsAtEnd : Here → View → View → Type 0
-LeadsAtEnd a v0 v1 = (worlds : List World) (m : Option Machine) → IsHere worlds a v0 m [] → Leads (outcome_of_rest worlds (at_of a m) []).machine v0 v1
+LeadsAtEnd a v0 v1 = (worlds : List World) (began : Objects) (m : Option Machine) → IsHere worlds began a v0 m [] → Leads (outcome_of_rest worlds (at_of a m) []).machine began v0 v1
 
 -- the same, of the whole script
-by_leads : (a : Here) (b : ℕ) (v0 v1 : View) → LeadsBy a b v0 v1 → (worlds : List World) (whole : List ℕ → Outcome) (read front more : List ℕ) → SessionAt worlds a v0 whole read front (b ∷ more) → Leads (whole (read ++ (b ∷ more))).machine v0 v1
-by_leads a b v0 v1 leads worlds whole read front more s =
-    subst (λ (o : Outcome). Leads o.machine v0 v1) (sym (s.at.goes_on (b ∷ more))) (leads worlds s.machine more (here worlds a v0 whole read front (b ∷ more) s))
+by_leads : (a : Here) (b : ℕ) (v0 v1 : View) → LeadsBy a b v0 v1 → (worlds : List World) (began : Objects) (whole : List ℕ → Outcome) (read front more : List ℕ) → SessionAt worlds began a v0 whole read front (b ∷ more) → Leads (whole (read ++ (b ∷ more))).machine began v0 v1
+by_leads a b v0 v1 leads worlds began whole read front more s =
+    subst (λ (o : Outcome). Leads o.machine began v0 v1) (sym (s.at.goes_on (b ∷ more))) (leads worlds began s.machine more (here worlds began a v0 whole read front (b ∷ more) s))
 
 pub fed_byte : (held now : Option (List ℕ)) (v0 v1 : View) (a new : Here) (b : ℕ) (text : List ℕ) → now ≡ told_before held text
-    → ((worlds : List World) (m : Option Machine) (more : List ℕ) → IsHere worlds a v0 m (b ∷ more) → BytesGo worlds a m b new v1 (outcome_of_rest worlds (at_of a m) (b ∷ more)).machine text)
-    → (b ≡ 10 → new.pending ≡ []) → (b ≢ 10 → new.pending ≡ a.pending ++ b ∷ []) → (b ≢ 10 → text ≡ []) → LeadsBy a b v0 v1 → ChangesOnly IsObjectName IsObjectName v0 v1 → Fed held now v0 v1 a new (b ∷ [])
+    → ((worlds : List World) (began : Objects) (m : Option Machine) (more : List ℕ) → IsHere worlds began a v0 m (b ∷ more) → BytesGo worlds began a m b new v1 (outcome_of_rest worlds (at_of a m) (b ∷ more)).machine text)
+    → (b ≡ 10 → new.pending ≡ []) → (b ≢ 10 → new.pending ≡ a.pending ++ b ∷ []) → (b ≢ 10 → text ≡ []) → LeadsBy a b v0 v1 → ChangesOnly NamesObject NamesObject v0 v1 → Fed held now v0 v1 a new (b ∷ [])
 fed_byte held now v0 v1 a new b text wrote goes cleared longer quiet leads changes = record {
   text = text;
   wrote = wrote;
-  stands = λ worlds whole read front more s.
-      let g = goes worlds s.machine more (here worlds a v0 whole read front (b ∷ more) s) in
+  stands = λ worlds began whole read front more s.
+      let g = goes worlds began s.machine more (here worlds began a v0 whole read front (b ∷ more) s) in
       record {
         machine = g.machine;
         stands = g.stands;
         at = byte_stands (at_of a s.machine) (at_of new g.machine) b text worlds whole read front g.goes_on cleared quiet s.at;
         split = byte_splits read a.pending new.pending b cleared longer s.split;
-        ready = subst (λ (bs : List ℕ). IsReady g.machine (whole bs).machine v1) (sym (append_assoc read (b ∷ []) more)) (subst (λ (o : Outcome). IsReady g.machine o.machine v1) (sym (s.at.goes_on (b ∷ more))) g.ready);
+        ready = subst (λ (bs : List ℕ). IsReadyFrom began g.machine (whole bs).machine v1) (sym (append_assoc read (b ∷ []) more)) (subst (λ (o : Outcome). IsReadyFrom began g.machine o.machine v1) (sym (s.at.goes_on (b ∷ more))) g.ready);
       };
   leads = by_leads a b v0 v1 leads;
   changes = changes;
@@ -162,60 +163,60 @@ fed_byte held now v0 v1 a new b text wrote goes cleared longer quiet leads chang
 
 -- the run ends in a byte, of which this much was written
 ended_by : (stop : Stop) (held now : Option (List ℕ)) (v0 v1 : View) (a : Here) (b : ℕ) (text : List ℕ) → now ≡ told_before held text
-    → ((worlds : List World) (whole : List ℕ → Outcome) (read front more : List ℕ) → (s : SessionAt worlds a v0 whole read front (b ∷ more)) → (o : Outcome) → whole ((read ++ b ∷ []) ++ more) ≡ written_before front o
+    → ((worlds : List World) (began : Objects) (whole : List ℕ → Outcome) (read front more : List ℕ) → (s : SessionAt worlds began a v0 whole read front (b ∷ more)) → (o : Outcome) → whole ((read ++ b ∷ []) ++ more) ≡ written_before front o
     → o ≡ outcome_of_rest worlds (at_of a s.machine) (b ∷ more) → EndsBy stop whole (read ++ b ∷ []) (front ++ text) more)
-    → (IsComplete (ending_of stop) → (worlds : List World) (m : Option Machine) (more : List ℕ) → IsHere worlds a v0 m (b ∷ more) → IsReady (outcome_of_rest worlds (at_of a m) (b ∷ more)).machine (outcome_of_rest worlds (at_of a m) (b ∷ more)).machine v1)
-    → LeadsBy a b v0 v1 → ChangesOnly IsObjectName IsObjectName v0 v1 → EndedIn held now v0 v1 a (b ∷ []) stop
+    → (IsComplete (ending_of stop) → (worlds : List World) (began : Objects) (m : Option Machine) (more : List ℕ) → IsHere worlds began a v0 m (b ∷ more) → IsReady (outcome_of_rest worlds (at_of a m) (b ∷ more)).machine (outcome_of_rest worlds (at_of a m) (b ∷ more)).machine v1)
+    → LeadsBy a b v0 v1 → ChangesOnly NamesObject NamesObject v0 v1 → EndedIn held now v0 v1 a (b ∷ []) stop
 ended_by stop held now v0 v1 a b text wrote ends ready leads changes = record {
   text = text;
   wrote = wrote;
-  ends = λ worlds whole read front more s.
-      ends worlds whole read front more s _ (ap whole (append_assoc read (b ∷ []) more) ∙ s.at.goes_on (b ∷ more)) refl;
+  ends = λ worlds began whole read front more s.
+      ends worlds began whole read front more s _ (ap whole (append_assoc read (b ∷ []) more) ∙ s.at.goes_on (b ∷ more)) refl;
   leads = by_leads a b v0 v1 leads;
-  ready = λ complete worlds whole read front more s.
-      subst (λ (o : Outcome). IsReady o.machine o.machine v1) (sym (s.at.goes_on (b ∷ more))) (ready complete worlds s.machine more (here worlds a v0 whole read front (b ∷ more) s));
+  ready = λ complete worlds began whole read front more s.
+      subst (λ (o : Outcome). IsReady o.machine o.machine v1) (sym (s.at.goes_on (b ∷ more))) (ready complete worlds began s.machine more (here worlds began a v0 whole read front (b ∷ more) s));
   changes = changes;
 }
 
 -- a write that failed took a front of what the byte says
 pub ended_by_fault : (held now : Option (List ℕ)) (v0 v1 : View) (a new : Here) (b : ℕ) (malformed : Bool) (text : List ℕ) → WritesPart held now text
-    → ((worlds : List World) (m : Option Machine) (more : List ℕ) → IsHere worlds a v0 m (b ∷ more) → malformed ≡ true → IsLastAt text (outcome_of_rest worlds (at_of a m) (b ∷ more)) v1)
-    → ((worlds : List World) (m : Option Machine) (more : List ℕ) → IsHere worlds a v0 m (b ∷ more) → malformed ≡ false → BytesGo worlds a m b new v1 (outcome_of_rest worlds (at_of a m) (b ∷ more)).machine text)
-    → LeadsBy a b v0 v1 → ChangesOnly IsObjectName IsObjectName v0 v1 → EndedIn held now v0 v1 a (b ∷ []) WriteFault
+    → ((worlds : List World) (began : Objects) (m : Option Machine) (more : List ℕ) → IsHere worlds began a v0 m (b ∷ more) → malformed ≡ true → IsLastAt text (outcome_of_rest worlds (at_of a m) (b ∷ more)) v1)
+    → ((worlds : List World) (began : Objects) (m : Option Machine) (more : List ℕ) → IsHere worlds began a v0 m (b ∷ more) → malformed ≡ false → BytesGo worlds began a m b new v1 (outcome_of_rest worlds (at_of a m) (b ∷ more)).machine text)
+    → LeadsBy a b v0 v1 → ChangesOnly NamesObject NamesObject v0 v1 → EndedIn held now v0 v1 a (b ∷ []) WriteFault
 ended_by_fault held now v0 v1 a new b malformed text part last goes leads changes = ended_by WriteFault held now v0 v1 a b (take part.0 text) part.1
-    (λ worlds whole read front more s o is o_is.
-    let at = here worlds a v0 whole read front (b ∷ more) s in
-    begins_after front (take part.0 text) _ o is (subst (λ (x : Outcome). Begins (take part.0 text) x.text) (sym o_is) (said malformed worlds s.machine more (last worlds s.machine more at) (goes worlds s.machine more at))))
+    (λ worlds began whole read front more s o is o_is.
+    let at = here worlds began a v0 whole read front (b ∷ more) s in
+    begins_after front (take part.0 text) _ o is (subst (λ (x : Outcome). Begins (take part.0 text) x.text) (sym o_is) (said malformed worlds began s.machine more (last worlds began s.machine more at) (goes worlds began s.machine more at))))
     (λ no. absurd no) leads changes
   where
-    said : (bad : Bool) (worlds : List World) (m : Option Machine) (more : List ℕ) → (bad ≡ true → IsLastAt text (outcome_of_rest worlds (at_of a m) (b ∷ more)) v1) → (bad ≡ false → BytesGo worlds a m b new v1 (outcome_of_rest worlds (at_of a m) (b ∷ more)).machine text)
+    said : (bad : Bool) (worlds : List World) (began : Objects) (m : Option Machine) (more : List ℕ) → (bad ≡ true → IsLastAt text (outcome_of_rest worlds (at_of a m) (b ∷ more)) v1) → (bad ≡ false → BytesGo worlds began a m b new v1 (outcome_of_rest worlds (at_of a m) (b ∷ more)).machine text)
         → Begins (take part.0 text) (outcome_of_rest worlds (at_of a m) (b ∷ more)).text
-    said true worlds m more is_last _ =
+    said true worlds began m more is_last _ =
         let o = outcome_of_rest worlds (at_of a m) (b ∷ more) in
         begins_part part.0 text o.text (begins_last text o (is_last refl).0)
-    said false worlds m more _ goes_on =
+    said false worlds began m more _ goes_on =
         let o = outcome_of_rest worlds (at_of a m) (b ∷ more) in
         let g = goes_on refl in
         begins_part part.0 text o.text (begins_written text o (outcome_of_rest worlds (at_of new g.machine) more) (g.goes_on more))
 
 -- the line is malformed
 pub ended_malformed : (held now : Option (List ℕ)) (v0 v1 : View) (a : Here) (b : ℕ) (text : List ℕ) → now ≡ told_before held text
-    → ((worlds : List World) (m : Option Machine) (more : List ℕ) → IsHere worlds a v0 m (b ∷ more) → IsLastAt text (outcome_of_rest worlds (at_of a m) (b ∷ more)) v1)
-    → LeadsBy a b v0 v1 → ChangesOnly IsObjectName IsObjectName v0 v1 → EndedIn held now v0 v1 a (b ∷ []) Malformed
+    → ((worlds : List World) (began : Objects) (m : Option Machine) (more : List ℕ) → IsHere worlds began a v0 m (b ∷ more) → IsLastAt text (outcome_of_rest worlds (at_of a m) (b ∷ more)) v1)
+    → LeadsBy a b v0 v1 → ChangesOnly NamesObject NamesObject v0 v1 → EndedIn held now v0 v1 a (b ∷ []) Malformed
 ended_malformed held now v0 v1 a b text wrote last leads changes = ended_by Malformed held now v0 v1 a b text wrote
-    (λ worlds whole read front more s o is o_is. last_after front text _ o is (subst (IsLast text) (sym o_is) (last worlds s.machine more (here worlds a v0 whole read front (b ∷ more) s)).0))
-    (λ complete worlds m more at. (last worlds m more at).1) leads changes
+    (λ worlds began whole read front more s o is o_is. last_after front text _ o is (subst (IsLast text) (sym o_is) (last worlds began s.machine more (here worlds began a v0 whole read front (b ∷ more) s)).0))
+    (λ complete worlds began m more at. (last worlds began m more at).1) leads changes
 
 -- a line that gave no reply: nothing was written
-pub ended_outage : (fault : Outage) (held : Option (List ℕ)) (v0 v1 : View) (a : Here) (b : ℕ) → (fault ≡ outage.Failed → (b ≡ 10) × IsLineOfDisk a.pending) → LeadsBy a b v0 v1 → ChangesOnly IsObjectName IsObjectName v0 v1 → EndedIn held held v0 v1 a (b ∷ []) (stop_of fault)
+pub ended_outage : (fault : Outage) (held : Option (List ℕ)) (v0 v1 : View) (a : Here) (b : ℕ) → (fault ≡ outage.Failed → (b ≡ 10) × IsLineOfDisk a.pending) → LeadsBy a b v0 v1 → ChangesOnly NamesObject NamesObject v0 v1 → EndedIn held held v0 v1 a (b ∷ []) (stop_of fault)
 ended_outage outage.Failed held v0 v1 a b meets leads changes = ended_by DiskFault held held v0 v1 a b [] (sym (told_nothing held))
-    (λ worlds whole read front more s o is o_is. (
+    (λ worlds began whole read front more s o is o_is. (
       met_at whole read a.pending (b ∷ []) more (front ++ []) s.split (meets refl).0 (meets refl).1 (append-nil front ∙ s.at.answers),
       begins_after front [] _ o is (o.text, refl),
     ))
     (λ no. absurd no) leads changes
 ended_outage outage.Memory held v0 v1 a b meets leads changes = ended_by Memory held held v0 v1 a b [] (sym (told_nothing held))
-    (λ worlds whole read front more s o is o_is. begins_after front [] _ o is (o.text, refl))
+    (λ worlds began whole read front more s o is o_is. begins_after front [] _ o is (o.text, refl))
     (λ no. absurd no) leads changes
 
 -- ---- pieces
@@ -225,34 +226,34 @@ pub fed_nothing : (held : Option (List ℕ)) (v : View) (a : Here) → (IsKnown 
 fed_nothing held v a only = record {
   text = [];
   wrote = sym (told_nothing held);
-  stands = λ worlds whole read front more s. subst (λ (f : List ℕ). SessionAt worlds a v whole (read ++ []) f more) (sym (append-nil front)) (subst (λ (r : List ℕ). SessionAt worlds a v whole r front more) (sym (append-nil read)) s);
-  leads = λ worlds whole read front more s. still s.machine (whole (read ++ more)).machine v only s.ready;
+  stands = λ worlds began whole read front more s. subst (λ (f : List ℕ). SessionAt worlds began a v whole (read ++ []) f more) (sym (append-nil front)) (subst (λ (r : List ℕ). SessionAt worlds began a v whole r front more) (sym (append-nil read)) s);
+  leads = λ worlds began whole read front more s. still s.machine (whole (read ++ more)).machine began v only s.ready.now;
   changes = only_none v;
 }
 
 -- what a crash leaves in the second of two pieces, said of the bytes of both
-second_leads : (v1 v2 : View) (whole : List ℕ → Outcome) (read p q more : List ℕ) → Leads (whole ((read ++ p) ++ (q ++ more))).machine v1 v2 → Leads (whole (read ++ ((p ++ q) ++ more))).machine v1 v2
-second_leads v1 v2 whole read p q more l = subst (λ (bs : List ℕ). Leads (whole bs).machine v1 v2) (append_assoc read p (q ++ more) ∙ ap (λ (bs : List ℕ). read ++ bs) (sym (append_assoc p q more))) l
+second_leads : (began : Objects) (v1 v2 : View) (whole : List ℕ → Outcome) (read p q more : List ℕ) → Leads (whole ((read ++ p) ++ (q ++ more))).machine began v1 v2 → Leads (whole (read ++ ((p ++ q) ++ more))).machine began v1 v2
+second_leads began v1 v2 whole read p q more l = subst (λ (bs : List ℕ). Leads (whole bs).machine began v1 v2) (append_assoc read p (q ++ more) ∙ ap (λ (bs : List ℕ). read ++ bs) (sym (append_assoc p q more))) l
 
-first_leads : (v0 v1 : View) (whole : List ℕ → Outcome) (read p q more : List ℕ) → Leads (whole (read ++ (p ++ (q ++ more)))).machine v0 v1 → Leads (whole (read ++ ((p ++ q) ++ more))).machine v0 v1
-first_leads v0 v1 whole read p q more l = subst (λ (bs : List ℕ). Leads (whole (read ++ bs)).machine v0 v1) (sym (append_assoc p q more)) l
+first_leads : (began : Objects) (v0 v1 : View) (whole : List ℕ → Outcome) (read p q more : List ℕ) → Leads (whole (read ++ (p ++ (q ++ more)))).machine began v0 v1 → Leads (whole (read ++ ((p ++ q) ++ more))).machine began v0 v1
+first_leads began v0 v1 whole read p q more l = subst (λ (bs : List ℕ). Leads (whole (read ++ bs)).machine began v0 v1) (sym (append_assoc p q more)) l
 
 -- the run stands before both pieces, and so before the first
-before_both : (worlds : List World) (a : Here) (v : View) (whole : List ℕ → Outcome) (read front p q more : List ℕ) → SessionAt worlds a v whole read front ((p ++ q) ++ more) → SessionAt worlds a v whole read front (p ++ (q ++ more))
-before_both worlds a v whole read front p q more s = subst (SessionAt worlds a v whole read front) (append_assoc p q more) s
+before_both : (worlds : List World) (began : Objects) (a : Here) (v : View) (whole : List ℕ → Outcome) (read front p q more : List ℕ) → SessionAt worlds began a v whole read front ((p ++ q) ++ more) → SessionAt worlds began a v whole read front (p ++ (q ++ more))
+before_both worlds began a v whole read front p q more s = subst (SessionAt worlds began a v whole read front) (append_assoc p q more) s
 
 pub fed_fed : (h0 h1 h2 : Option (List ℕ)) (v0 v1 v2 : View) (a b c : Here) (p q : List ℕ) → Fed h0 h1 v0 v1 a b p → Fed h1 h2 v1 v2 b c q → Fed h0 h2 v0 v2 a c (p ++ q)
 fed_fed h0 h1 h2 v0 v1 v2 a b c p q t u = record {
   text = t.text ++ u.text;
   wrote = u.wrote ∙ ap (λ o. told_before o u.text) t.wrote ∙ told_twice h0 t.text u.text;
-  stands = λ worlds whole read front more s.
-      let w = u.stands worlds whole (read ++ p) (front ++ t.text) more (t.stands worlds whole read front (q ++ more) (before_both worlds a v0 whole read front p q more s)) in
-      subst (λ (f : List ℕ). SessionAt worlds c v2 whole (read ++ (p ++ q)) f more) (append_assoc front t.text u.text)
-      (subst (λ (r : List ℕ). SessionAt worlds c v2 whole r ((front ++ t.text) ++ u.text) more) (append_assoc read p q) w);
-  leads = λ worlds whole read front more s.
-      let at = before_both worlds a v0 whole read front p q more s in
-      leads_then (whole (read ++ ((p ++ q) ++ more))).machine v0 v1 v2 (first_leads v0 v1 whole read p q more (t.leads worlds whole read front (q ++ more) at))
-      (second_leads v1 v2 whole read p q more (u.leads worlds whole (read ++ p) (front ++ t.text) more (t.stands worlds whole read front (q ++ more) at)));
+  stands = λ worlds began whole read front more s.
+      let w = u.stands worlds began whole (read ++ p) (front ++ t.text) more (t.stands worlds began whole read front (q ++ more) (before_both worlds began a v0 whole read front p q more s)) in
+      subst (λ (f : List ℕ). SessionAt worlds began c v2 whole (read ++ (p ++ q)) f more) (append_assoc front t.text u.text)
+      (subst (λ (r : List ℕ). SessionAt worlds began c v2 whole r ((front ++ t.text) ++ u.text) more) (append_assoc read p q) w);
+  leads = λ worlds began whole read front more s.
+      let at = before_both worlds began a v0 whole read front p q more s in
+      leads_then (whole (read ++ ((p ++ q) ++ more))).machine began v0 v1 v2 (first_leads began v0 v1 whole read p q more (t.leads worlds began whole read front (q ++ more) at))
+      (second_leads began v1 v2 whole read p q more (u.leads worlds began whole (read ++ p) (front ++ t.text) more (t.stands worlds began whole read front (q ++ more) at)));
   changes = only_then t.changes u.changes;
 }
 
@@ -260,17 +261,17 @@ pub fed_ended : (h0 h1 h2 : Option (List ℕ)) (v0 v1 v2 : View) (a b : Here) (p
 fed_ended h0 h1 h2 v0 v1 v2 a b p q stop t u = record {
   text = t.text ++ u.text;
   wrote = u.wrote ∙ ap (λ o. told_before o u.text) t.wrote ∙ told_twice h0 t.text u.text;
-  ends = λ worlds whole read front more s.
-      let w = u.ends worlds whole (read ++ p) (front ++ t.text) more (t.stands worlds whole read front (q ++ more) (before_both worlds a v0 whole read front p q more s)) in
+  ends = λ worlds began whole read front more s.
+      let w = u.ends worlds began whole (read ++ p) (front ++ t.text) more (t.stands worlds began whole read front (q ++ more) (before_both worlds began a v0 whole read front p q more s)) in
       subst (λ (f : List ℕ). EndsBy stop whole (read ++ (p ++ q)) f more) (append_assoc front t.text u.text)
       (subst (λ (r : List ℕ). EndsBy stop whole r ((front ++ t.text) ++ u.text) more) (append_assoc read p q) w);
-  leads = λ worlds whole read front more s.
-      let at = before_both worlds a v0 whole read front p q more s in
-      leads_then (whole (read ++ ((p ++ q) ++ more))).machine v0 v1 v2 (first_leads v0 v1 whole read p q more (t.leads worlds whole read front (q ++ more) at))
-      (second_leads v1 v2 whole read p q more (u.leads worlds whole (read ++ p) (front ++ t.text) more (t.stands worlds whole read front (q ++ more) at)));
-  ready = λ complete worlds whole read front more s.
+  leads = λ worlds began whole read front more s.
+      let at = before_both worlds began a v0 whole read front p q more s in
+      leads_then (whole (read ++ ((p ++ q) ++ more))).machine began v0 v1 v2 (first_leads began v0 v1 whole read p q more (t.leads worlds began whole read front (q ++ more) at))
+      (second_leads began v1 v2 whole read p q more (u.leads worlds began whole (read ++ p) (front ++ t.text) more (t.stands worlds began whole read front (q ++ more) at)));
+  ready = λ complete worlds began whole read front more s.
       subst (λ (bs : List ℕ). IsReady (whole bs).machine (whole bs).machine v2) (append_assoc read p (q ++ more) ∙ ap (λ (bs : List ℕ). read ++ bs) (sym (append_assoc p q more)))
-      (u.ready complete worlds whole (read ++ p) (front ++ t.text) more (t.stands worlds whole read front (q ++ more) (before_both worlds a v0 whole read front p q more s)));
+      (u.ready complete worlds began whole (read ++ p) (front ++ t.text) more (t.stands worlds began whole read front (q ++ more) (before_both worlds began a v0 whole read front p q more s)));
   changes = only_then t.changes u.changes;
 }
 
@@ -297,12 +298,12 @@ pub ended_more : (h0 h1 : Option (List ℕ)) (v0 v1 : View) (a : Here) (p rest :
 ended_more h0 h1 v0 v1 a p rest stop t = record {
   text = t.text;
   wrote = t.wrote;
-  ends = λ worlds whole read front more s.
+  ends = λ worlds began whole read front more s.
       subst (λ (r : List ℕ). EndsBy stop whole r (front ++ t.text) more) (append_assoc read p rest)
-      (ends_longer stop whole (read ++ p) rest (front ++ t.text) more (t.ends worlds whole read front (rest ++ more) (before_both worlds a v0 whole read front p rest more s)));
-  leads = λ worlds whole read front more s. first_leads v0 v1 whole read p rest more (t.leads worlds whole read front (rest ++ more) (before_both worlds a v0 whole read front p rest more s));
-  ready = λ complete worlds whole read front more s.
-      subst (λ (bs : List ℕ). IsReady (whole (read ++ bs)).machine (whole (read ++ bs)).machine v1) (sym (append_assoc p rest more)) (t.ready complete worlds whole read front (rest ++ more) (before_both worlds a v0 whole read front p rest more s));
+      (ends_longer stop whole (read ++ p) rest (front ++ t.text) more (t.ends worlds began whole read front (rest ++ more) (before_both worlds began a v0 whole read front p rest more s)));
+  leads = λ worlds began whole read front more s. first_leads began v0 v1 whole read p rest more (t.leads worlds began whole read front (rest ++ more) (before_both worlds began a v0 whole read front p rest more s));
+  ready = λ complete worlds began whole read front more s.
+      subst (λ (bs : List ℕ). IsReady (whole (read ++ bs)).machine (whole (read ++ bs)).machine v1) (sym (append_assoc p rest more)) (t.ready complete worlds began whole read front (rest ++ more) (before_both worlds began a v0 whole read front p rest more s));
   changes = t.changes;
 }
 
@@ -324,13 +325,13 @@ ended_next h0 h1 h2 v0 v1 v2 a b piece i byte stop l at t u =
 
 -- a write that failed took a front of what the end of the input says
 pub end_by_fault : (held now : Option (List ℕ)) (v0 v1 : View) (a : Here) (refused malformed : Bool) (text : List ℕ) → WritesPart held now text
-    → ((worlds : List World) (m : Option Machine) → IsHere worlds a v0 m [] → malformed ≡ true → IsLastAt text (outcome_of_rest worlds (at_of a m) []) v1)
-    → ((worlds : List World) (m : Option Machine) → IsHere worlds a v0 m [] → malformed ≡ false → IsWholeAt refused text (outcome_of_rest worlds (at_of a m) []) v1)
-    → LeadsAtEnd a v0 v1 → ChangesOnly IsObjectName IsObjectName v0 v1 → AtInputEnd held now v0 v1 a Unwritten
+    → ((worlds : List World) (began : Objects) (m : Option Machine) → IsHere worlds began a v0 m [] → malformed ≡ true → IsLastAt text (outcome_of_rest worlds (at_of a m) []) v1)
+    → ((worlds : List World) (began : Objects) (m : Option Machine) → IsHere worlds began a v0 m [] → malformed ≡ false → IsWholeAt refused text (outcome_of_rest worlds (at_of a m) []) v1)
+    → LeadsAtEnd a v0 v1 → ChangesOnly NamesObject NamesObject v0 v1 → AtInputEnd held now v0 v1 a Unwritten
 end_by_fault held now v0 v1 a refused malformed text part last goes leads changes = record {
   text = take part.0 text;
   wrote = part.1;
-  answers = λ worlds m at. begins_part part.0 text _ (said malformed (outcome_of_rest worlds (at_of a m) []) (last worlds m at) (goes worlds m at));
+  answers = λ worlds began m at. begins_part part.0 text _ (said malformed (outcome_of_rest worlds (at_of a m) []) (last worlds began m at) (goes worlds began m at));
   leads = leads;
   ready = λ no. absurd no;
   changes = changes;
@@ -341,23 +342,23 @@ end_by_fault held now v0 v1 a refused malformed text part last goes leads change
     said false o _ goes_on = ([], (goes_on refl).0.text_is ∙ sym (append-nil text))
 
 pub end_malformed : (held now : Option (List ℕ)) (v0 v1 : View) (a : Here) (text : List ℕ) → now ≡ told_before held text
-    → ((worlds : List World) (m : Option Machine) → IsHere worlds a v0 m [] → IsLastAt text (outcome_of_rest worlds (at_of a m) []) v1)
-    → LeadsAtEnd a v0 v1 → ChangesOnly IsObjectName IsObjectName v0 v1 → AtInputEnd held now v0 v1 a IllFormed
+    → ((worlds : List World) (began : Objects) (m : Option Machine) → IsHere worlds began a v0 m [] → IsLastAt text (outcome_of_rest worlds (at_of a m) []) v1)
+    → LeadsAtEnd a v0 v1 → ChangesOnly NamesObject NamesObject v0 v1 → AtInputEnd held now v0 v1 a IllFormed
 end_malformed held now v0 v1 a text wrote last leads changes = record {
   text = text;
   wrote = wrote;
-  answers = λ worlds m at. (last worlds m at).0;
+  answers = λ worlds began m at. (last worlds began m at).0;
   leads = leads;
-  ready = λ complete worlds m at. (last worlds m at).1;
+  ready = λ complete worlds began m at. (last worlds began m at).1;
   changes = changes;
 }
 
-pub end_outage : (fault : Outage) (held : Option (List ℕ)) (v0 v1 : View) (a : Here) → (fault ≡ outage.Failed → IsLineOfDisk a.pending) → LeadsAtEnd a v0 v1 → ChangesOnly IsObjectName IsObjectName v0 v1 → AtInputEnd held held v0 v1 a (ending_of (stop_of fault))
-end_outage outage.Failed held v0 v1 a meets leads changes = record { text = []; wrote = sym (told_nothing held); answers = λ worlds m at. (refl, meets refl); leads = leads; ready = λ no. absurd no; changes = changes }
-end_outage outage.Memory held v0 v1 a meets leads changes = record { text = []; wrote = sym (told_nothing held); answers = λ worlds m at. ((outcome_of_rest worlds (at_of a m) []).text, refl); leads = leads; ready = λ no. absurd no; changes = changes }
+pub end_outage : (fault : Outage) (held : Option (List ℕ)) (v0 v1 : View) (a : Here) → (fault ≡ outage.Failed → IsLineOfDisk a.pending) → LeadsAtEnd a v0 v1 → ChangesOnly NamesObject NamesObject v0 v1 → AtInputEnd held held v0 v1 a (ending_of (stop_of fault))
+end_outage outage.Failed held v0 v1 a meets leads changes = record { text = []; wrote = sym (told_nothing held); answers = λ worlds began m at. (refl, meets refl); leads = leads; ready = λ no. absurd no; changes = changes }
+end_outage outage.Memory held v0 v1 a meets leads changes = record { text = []; wrote = sym (told_nothing held); answers = λ worlds began m at. ((outcome_of_rest worlds (at_of a m) []).text, refl); leads = leads; ready = λ no. absurd no; changes = changes }
 
 pub end_done : (held now : Option (List ℕ)) (v0 v1 : View) (a : Here) (refused : Bool) (text : List ℕ) → now ≡ told_before held text
-    → ((worlds : List World) (m : Option Machine) → IsHere worlds a v0 m [] → IsWholeAt refused text (outcome_of_rest worlds (at_of a m) []) v1)
-    → LeadsAtEnd a v0 v1 → ChangesOnly IsObjectName IsObjectName v0 v1 → AtInputEnd held now v0 v1 a (done_ending refused)
-end_done held now v0 v1 a true text wrote goes leads changes = record { text = text; wrote = wrote; answers = λ worlds m at. (goes worlds m at).0; leads = leads; ready = λ complete worlds m at. (goes worlds m at).1; changes = changes }
-end_done held now v0 v1 a false text wrote goes leads changes = record { text = text; wrote = wrote; answers = λ worlds m at. (goes worlds m at).0; leads = leads; ready = λ complete worlds m at. (goes worlds m at).1; changes = changes }
+    → ((worlds : List World) (began : Objects) (m : Option Machine) → IsHere worlds began a v0 m [] → IsWholeAt refused text (outcome_of_rest worlds (at_of a m) []) v1)
+    → LeadsAtEnd a v0 v1 → ChangesOnly NamesObject NamesObject v0 v1 → AtInputEnd held now v0 v1 a (done_ending refused)
+end_done held now v0 v1 a true text wrote goes leads changes = record { text = text; wrote = wrote; answers = λ worlds began m at. (goes worlds began m at).0; leads = leads; ready = λ complete worlds began m at. (goes worlds began m at).1; changes = changes }
+end_done held now v0 v1 a false text wrote goes leads changes = record { text = text; wrote = wrote; answers = λ worlds began m at. (goes worlds began m at).0; leads = leads; ready = λ complete worlds began m at. (goes worlds began m at).1; changes = changes }

@@ -1,5 +1,6 @@
 -- How a run ends, and what each ending says of the script and of what was written.
 use Rattle.std.specs.Prelude.{◌≡◌, ◌≢◌, ◌⊎◌, codes, ℕ, ◌<◌, ◌≤◌, ◌-◌, ◌^◌, Bool, true, false, List, [], ◌∷◌, ◌++◌, take, Option, Some, None, Result, Ok, Err}
+use Rattle.std.specs.List.{Contains}
 use Rattle.std.specs.Str.{bytes_eq}
 use Rattle.outside_world.specs.Told.{told_before}
 use Rattle.outside_world.specs.Causes.{Rose}
@@ -7,12 +8,17 @@ use Rattle.outside_world.specs.Disk.{View}
 use Rattle.outside_world.specs.declared.disk.DiskFault.{DiskFault as Outage}
 use Rattle.outside_world.specs.declared.disk.DiskFault.TheVariants as disk
 use Rattle.outside_world.specs.Moments.{ChangesOnly, LeavesOnly}
+use Rattle.outside_world.specs.Objects.{Objects}
+use Rattle.layer_model.specs.Layers.{LayerObjects}
+use Rattle.layer_model.specs.Names.{IsOwnName}
+use Rattle.collection_dir.specs.Footprints.{AtMarked}
+use Rattle.collection_dir.specs.Standing.{KeepManifests}
 use Rattle.command_lang.specs.declared.command.Command.{Command}
 use Rattle.command_lang.specs.Lines.{Reads, reading}
 use Rattle.machine_model.specs.Machine.{World, Machine}
-use Rattle.machine_model.specs.Disks.{IsDoneIn, IsIdle, IsReady, StandsUntil}
+use Rattle.machine_model.specs.Disks.{IsDoneIn, IsIdle, IsReady, StandsUntil, made_layers}
 use Rattle.machine_model.specs.Script.{Outcome, script_outcome, whole_lines}
-use Rattle.cluster_core.specs.Standing.{IsOwnName}
+use Rattle.machine_model.specs.Extensions.{script_commands}
 use Rattle.cluster_core.specs.Stepping.{is_of_disk}
 use Rattle.backup_run.specs.declared.stops.Ending.{Ending}
 use Rattle.backup_run.specs.declared.stops.Ending.TheVariants.{AllDone, SomeRefused, IllFormed, ReadFault, Unwritten, DiskFailed, NoMemory}
@@ -131,19 +137,28 @@ IsComplete NoMemory = ⊥
 
 -- ---- the disk
 
--- a name of an object of a layer; and one of the cluster that a script names
-abbrev pub IsObjectName : List ℕ → Type 0
-IsObjectName n = (cluster : List ℕ) × IsOwnName cluster n
-
+-- a name of an object of the cluster that a script names
 abbrev pub IsOwnIn : Option Machine → List ℕ → Type 0
 IsOwnIn None n = ⊥
 IsOwnIn (Some m) n = IsOwnName m.name n
 
--- What a call does to the disk, on the way to an end: whatever a crash leaves at any moment stands for it, and only objects of its cluster
--- are put and removed. Where all layers are done, it does nothing.
-pub record Leads (end : Option Machine) (old new : View) : Type 0 where
+-- such a name, and, of all layers that the script makes, of no chunk that was marked in these objects, and of no mark of one
+abbrev pub MayPutIn : Option Machine → Objects → List ℕ → Type 0
+MayPutIn None began n = ⊥
+MayPutIn (Some end) began n = IsOwnName end.name n × ((w : LayerObjects) → Contains (made_layers end) w → ¬ AtMarked w began n)
+
+-- a layer that the script makes and that is open has its manifest in version 2, unless it was open before, and its manifest is as it was
+abbrev pub KeepManifestsIn : Option Machine → Objects → Objects → Type 0
+KeepManifestsIn None old new = Unit {0}
+KeepManifestsIn (Some m) old new = KeepManifests (made_layers m) old new
+
+-- What a call does to the disk, on the way to an end, in a run that began with these objects: whatever a crash leaves at any moment stands
+-- for that end, and only objects of its cluster are put and removed. No chunk that was marked as the run began is put, nor its mark. A layer
+-- that is open afterwards and wasn't before has its manifest in version 2. Where all layers are done, it does nothing.
+pub record Leads (end : Option Machine) (began : Objects) (old new : View) : Type 0 where
   pub leaves : LeavesOnly old new (StandsUntil end)
-  pub changes : ChangesOnly (IsOwnIn end) (IsOwnIn end) old new
+  pub changes : ChangesOnly (MayPutIn end began) (IsOwnIn end) old new
+  pub manifests : KeepManifestsIn end old.objects new.objects
   pub idle : IsDoneIn end old.objects → IsIdle old new
 
 -- the text is the last of this outcome, or the whole of it, and the disk holds just the layers of its machine
@@ -155,7 +170,9 @@ IsWholeAt refused text o v = IsWhole refused text o × IsReady o.machine o.machi
 
 -- What a run does, where the source tells the script, the sink what it holds, and the disk stands for the script: the bytes that were
 -- read and those that are left, what the sink got in this call, and what the ending says of them. Whatever a crash leaves at any moment
--- stands for the script too, only objects of its cluster are put and removed, and a complete run leaves a disk that holds just its layers.
+-- stands for the script too, and for each that has its commands and then others; only objects of its cluster are put and removed, no
+-- chunk is put that was marked as the run began, layers that are new have version 2, and a complete run leaves a disk that holds just its
+-- layers.
 pub record RunsScript (worlds : List World) (left_new held_new : Option (List ℕ)) (old new : View) (script held : List ℕ) (code : ℕ) : Type 0 where
   pub ending : Ending
   pub read : List ℕ
@@ -166,8 +183,10 @@ pub record RunsScript (worlds : List World) (left_new held_new : Option (List �
   pub left : left_new ≡ Some rest
   pub got : held_new ≡ Some (held ++ written)
   pub answers : Answers ending (script_outcome worlds) read rest written
-  pub leads : Leads (script_outcome worlds script).machine old new
+  pub leads : Leads (script_outcome worlds script).machine old.objects old new
   pub ready : IsComplete ending → IsReady (script_outcome worlds script).machine (script_outcome worlds script).machine new
+  pub longer : (longer : List ℕ) (m : Machine) (more : List Command) → (script_outcome worlds script).machine ≡ Some m → script_commands longer ≡ script_commands script ++ more
+      → LeavesOnly old new (StandsUntil (script_outcome worlds longer).machine)
 
 -- ---- causes
 

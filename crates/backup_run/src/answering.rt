@@ -3,16 +3,17 @@ ghost use Rattle.std.specs.Prelude.{◌≡◌, ◌<◌, ◌≤◌, ◌+◌, true
 ghost use Rattle.outside_world.specs.Disk.{DiskHasCause};
 ghost use Rattle.outside_world.specs.declared.disk.DiskFault.TheVariants as outage;
 ghost use Rattle.outside_world.specs.Moments.{ChangesOnly};
+ghost use Rattle.outside_world.specs.Objects.{Objects};
 ghost use Rattle.reply_texts.specs.declared.replies.Response.{Response};
 ghost use Rattle.machine_model.specs.declared.limits.TheConstants.{SCRIPT_BYTES_MAX};
 ghost use Rattle.machine_model.specs.Machine.{World, Machine};
-ghost use Rattle.machine_model.specs.Disks.{IsReady};
 ghost use Rattle.machine_model.specs.Step.{step};
-ghost use Rattle.machine_model.specs.Script.{first_machine, after_reply, reply_before, response_of, machine_of, command_step, reading_before, machine_after, read_at, Outcome, malformed_text};
-ghost use Rattle.cluster_core.specs.Standing.{MayStep, StandsFor};
+ghost use Rattle.machine_model.specs.Script.{first_machine, after_reply, reply_before, response_of, machine_in, command_step, reading_before, machine_after, read_at, Outcome, malformed_text};
+ghost use Rattle.cluster_core.specs.Standing.{AreAhead, MayStep, StandsFor};
 ghost use Rattle.cluster_core.specs.Stepping.{IsReplied, IsReplyOf, is_of_disk};
-ghost use Rattle.backup_run.specs.Endings.{IsLineOfDisk, IsObjectName, Leads};
-ghost use Rattle.backup_run.specs.Run.{SaysLine, HasStepped, IsAnswered, IsAt, MayGo};
+ghost use Rattle.backup_run.specs.Endings.{IsLineOfDisk, Leads};
+ghost use Rattle.layer_model.specs.Names.{NamesObject};
+ghost use Rattle.backup_run.specs.Run.{SaysLine, HasStepped, IsAnswered, IsAt, IsReadyFrom, MayGo};
 
 use cluster_core::{Cluster, Limits, RunFault};
 use command_lang::{Command, LineFault, parse_line};
@@ -67,10 +68,10 @@ fn step_cluster<D: Disk>(
     requires few { cluster.old.steps < SCRIPT_BYTES_MAX }
     requires stands { (m : Machine) × StandsFor cluster.old m }
     ensures step { (worlds : List World) (m end : Machine) → MayStep cluster.old m (step worlds m command.now) end (D.view disk.old) → IfOk result (λ r. IsReplied cluster.new r (step worlds m command.now)) }
-    ensures ready { (worlds : List World) (m end : Machine) → MayStep cluster.old m (step worlds m command.now) end (D.view disk.old) → OnOk result (IsReady (Some (step worlds m command.now).machine) (Some end) (D.view disk.new)) }
-    ensures leads { (worlds : List World) (m end : Machine) → MayStep cluster.old m (step worlds m command.now) end (D.view disk.old) → Leads (Some end) (D.view disk.old) (D.view disk.new) }
+    ensures ready { (worlds : List World) (began : Objects) (m end : Machine) → MayStep cluster.old m (step worlds m command.now) end (D.view disk.old) → AreAhead m end began (D.view disk.old).objects → OnOk result (IsReadyFrom began (Some (step worlds m command.now).machine) (Some end) (D.view disk.new)) }
+    ensures leads { (worlds : List World) (began : Objects) (m end : Machine) → MayStep cluster.old m (step worlds m command.now) end (D.view disk.old) → AreAhead m end began (D.view disk.old).objects → Leads (Some end) began (D.view disk.old) (D.view disk.new) }
     ensures stays { OnOk result ((m : Machine) × StandsFor cluster.new m) }
-    ensures changes { ChangesOnly IsObjectName IsObjectName (D.view disk.old) (D.view disk.new) }
+    ensures changes { ChangesOnly NamesObject NamesObject (D.view disk.old) (D.view disk.new) }
     ensures steps { OnOk result ((cluster.new.steps ≡ cluster.old.steps + 1) × (cluster.new.ended ≡ false)) }
     ensures cause { DiskHasCause (D.view disk.old).faults (D.view disk.new).faults result }
     ensures disk { IfErr result (λ e. e ≡ outage.Failed → is_of_disk command.now ≡ true) }
@@ -96,10 +97,10 @@ fn execute<D: Disk>(
     requires stepped { HasStepped cluster.old number }
     requires first { 0 < number }
     requires few { number ≤ SCRIPT_BYTES_MAX }
-    ensures step { (worlds : List World) (m end : Option Machine) → MayGo cluster.old m (machine_of (command_step worlds m command.now)) end (D.view disk.old) → IfOk result (λ r. IsAnswered cluster.new r (command_step worlds m command.now)) }
-    ensures ready { (worlds : List World) (m end : Option Machine) → MayGo cluster.old m (machine_of (command_step worlds m command.now)) end (D.view disk.old) → OnOk result (IsReady (machine_of (command_step worlds m command.now)) end (D.view disk.new)) }
-    ensures leads { (worlds : List World) (m end : Option Machine) → MayGo cluster.old m (machine_of (command_step worlds m command.now)) end (D.view disk.old) → Leads end (D.view disk.old) (D.view disk.new) }
-    ensures changes { ChangesOnly IsObjectName IsObjectName (D.view disk.old) (D.view disk.new) }
+    ensures step { (worlds : List World) (began : Objects) (m end : Option Machine) → MayGo began cluster.old m (machine_in (command_step worlds m command.now)) end (D.view disk.old) → IfOk result (λ r. IsAnswered cluster.new r (command_step worlds m command.now)) }
+    ensures ready { (worlds : List World) (began : Objects) (m end : Option Machine) → MayGo began cluster.old m (machine_in (command_step worlds m command.now)) end (D.view disk.old) → OnOk result (IsReadyFrom began (machine_in (command_step worlds m command.now)) end (D.view disk.new)) }
+    ensures leads { (worlds : List World) (began : Objects) (m end : Option Machine) → MayGo began cluster.old m (machine_in (command_step worlds m command.now)) end (D.view disk.old) → Leads end began (D.view disk.old) (D.view disk.new) }
+    ensures changes { ChangesOnly NamesObject NamesObject (D.view disk.old) (D.view disk.new) }
     ensures stepped { IfOk result (λ _. HasStepped cluster.new (number + 1)) }
     ensures cause { DiskHasCause (D.view disk.old).faults (D.view disk.new).faults result }
     ensures disk { IfErr result (λ e. e ≡ outage.Failed → (is_none cluster.old ≡ false) × (is_of_disk command.now ≡ true)) }
@@ -150,11 +151,11 @@ fn say_command<D: Disk>(
     requires stepped { HasStepped cluster.old number }
     requires first { 0 < number }
     requires few { number ≤ SCRIPT_BYTES_MAX }
-    ensures said { (worlds : List World) (m end : Option Machine) → MayGo cluster.old m (machine_of (command_step worlds m command.now)) end (D.view disk.old) → IfOk result (λ said. SaysLine (machine_of (command_step worlds m command.now)) said.malformed said.refused said.text.items
+    ensures said { (worlds : List World) (began : Objects) (m end : Option Machine) → MayGo began cluster.old m (machine_in (command_step worlds m command.now)) end (D.view disk.old) → IfOk result (λ said. SaysLine (machine_in (command_step worlds m command.now)) said.malformed said.refused said.text.items
         (λ (o : Outcome). reply_before number (response_of (command_step worlds m command.now)) o) (λ o. o)) }
-    ensures at { (worlds : List World) (m end : Option Machine) → MayGo cluster.old m (machine_of (command_step worlds m command.now)) end (D.view disk.old) → OnOk result (IsAt cluster.new (machine_of (command_step worlds m command.now)) end (D.view disk.new)) }
-    ensures leads { (worlds : List World) (m end : Option Machine) → MayGo cluster.old m (machine_of (command_step worlds m command.now)) end (D.view disk.old) → Leads end (D.view disk.old) (D.view disk.new) }
-    ensures changes { ChangesOnly IsObjectName IsObjectName (D.view disk.old) (D.view disk.new) }
+    ensures at { (worlds : List World) (began : Objects) (m end : Option Machine) → MayGo began cluster.old m (machine_in (command_step worlds m command.now)) end (D.view disk.old) → OnOk result (IsAt began cluster.new (machine_in (command_step worlds m command.now)) end (D.view disk.new)) }
+    ensures leads { (worlds : List World) (began : Objects) (m end : Option Machine) → MayGo began cluster.old m (machine_in (command_step worlds m command.now)) end (D.view disk.old) → Leads end began (D.view disk.old) (D.view disk.new) }
+    ensures changes { ChangesOnly NamesObject NamesObject (D.view disk.old) (D.view disk.new) }
     ensures stepped { IfOk result (λ _. HasStepped cluster.new (number + 1)) }
     ensures cause { DiskHasCause (D.view disk.old).faults (D.view disk.new).faults result }
     ensures disk { IfErr result (λ e. e ≡ outage.Failed → (is_none cluster.old ≡ false) × (is_of_disk command.now ≡ true)) }
@@ -195,11 +196,11 @@ pub fn say_line<D: Disk>(
     requires stepped { HasStepped cluster.old number }
     requires first { 0 < number }
     requires few { number ≤ SCRIPT_BYTES_MAX }
-    ensures said { (worlds : List World) (m end : Option Machine) → MayGo cluster.old m (machine_after worlds m (read_at m line.now)) end (D.view disk.old) → IfOk result (λ said. SaysLine (machine_after worlds m (read_at m line.now)) said.malformed said.refused said.text.items
+    ensures said { (worlds : List World) (began : Objects) (m end : Option Machine) → MayGo began cluster.old m (machine_after worlds m (read_at m line.now)) end (D.view disk.old) → IfOk result (λ said. SaysLine (machine_after worlds m (read_at m line.now)) said.malformed said.refused said.text.items
         (λ (o : Outcome). reading_before worlds number m (read_at m line.now) o) (λ o. o)) }
-    ensures at { (worlds : List World) (m end : Option Machine) → MayGo cluster.old m (machine_after worlds m (read_at m line.now)) end (D.view disk.old) → OnOk result (IsAt cluster.new (machine_after worlds m (read_at m line.now)) end (D.view disk.new)) }
-    ensures leads { (worlds : List World) (m end : Option Machine) → MayGo cluster.old m (machine_after worlds m (read_at m line.now)) end (D.view disk.old) → Leads end (D.view disk.old) (D.view disk.new) }
-    ensures changes { ChangesOnly IsObjectName IsObjectName (D.view disk.old) (D.view disk.new) }
+    ensures at { (worlds : List World) (began : Objects) (m end : Option Machine) → MayGo began cluster.old m (machine_after worlds m (read_at m line.now)) end (D.view disk.old) → OnOk result (IsAt began cluster.new (machine_after worlds m (read_at m line.now)) end (D.view disk.new)) }
+    ensures leads { (worlds : List World) (began : Objects) (m end : Option Machine) → MayGo began cluster.old m (machine_after worlds m (read_at m line.now)) end (D.view disk.old) → Leads end began (D.view disk.old) (D.view disk.new) }
+    ensures changes { ChangesOnly NamesObject NamesObject (D.view disk.old) (D.view disk.new) }
     ensures stepped { IfOk result (λ _. HasStepped cluster.new (number + 1)) }
     ensures cause { DiskHasCause (D.view disk.old).faults (D.view disk.new).faults result }
     ensures disk { IfErr result (λ e. e ≡ outage.Failed → IsLineOfDisk line.now) }

@@ -4,7 +4,8 @@ ghost use Rattle.outside_world.specs.Moments.{ChangesOnly};
 ghost use Rattle.machine_model.specs.Machine.{World};
 ghost use Rattle.machine_model.specs.Disks.{IsReady};
 ghost use Rattle.machine_model.specs.Script.{script_outcome};
-ghost use Rattle.backup_run.specs.Endings.{IsObjectName, RunsScript, code_of, are_known, CodeCause, ReadCause, WriteCause, StoreCause, StaysLow, Completes, done_ending};
+ghost use Rattle.backup_run.specs.Endings.{RunsScript, code_of, are_known, CodeCause, ReadCause, WriteCause, StoreCause, StaysLow, Completes, done_ending};
+ghost use Rattle.layer_model.specs.Names.{NamesObject};
 ghost use Rattle.backup_run.specs.Run.{at_first, Ran, AtInputEnd};
 
 use crate::feeding::{end_input, feed};
@@ -150,7 +151,7 @@ pub fn run<S: Source, K: Sink, D: Disk>(
         IsReady None (script_outcome worlds script).machine (D.view disk.old) →
         RunsScript worlds (S.left source.new) (K.held sink.new) (D.view disk.old) (D.view disk.new) script held result.code }
     // Whatever the disk holds, no name but that of an object of a layer is put or removed.
-    ensures changes { ChangesOnly IsObjectName IsObjectName (D.view disk.old) (D.view disk.new) }
+    ensures changes { ChangesOnly NamesObject NamesObject (D.view disk.old) (D.view disk.new) }
     // The counts of faults: 4, 5 and 6 come only where they rose.
     ensures read { CodeCause 4 (S.faults source.old) (S.faults source.new) result.code }
     ensures wrote { CodeCause 5 (K.faults sink.old) (K.faults sink.new) result.code }

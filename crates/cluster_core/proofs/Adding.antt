@@ -24,7 +24,8 @@ use Rattle.layer_objects.specs.Storable.{IsSized}
 use Rattle.layer_objects.specs.Objects.{rows_of, table_kinds, by_id}
 use Rattle.cluster_core.specs.Standing.{Keeps, machine_of, IsStepped, Refuses}
 use Rattle.cluster_core.proofs.Tables.{by_id-at}
-use Rattle.cluster_core.proofs.Kept.{next-later, in_force-has, grown, keeps-more, may-add}
+use Rattle.cluster_core.proofs.Kept.{in_force-has, grown, keeps-more, may-add}
+use Rattle.machine_model.proofs.Past.{next-later}
 use Rattle.cluster_core.proofs.Looking.{Sees, found_by, sees}
 use Rattle.cluster_core.proofs.Flow.{draws, missing, finds, passes, stops, does}
 

@@ -20,7 +20,7 @@ use Rattle.key_rewriter.specs.Ids.{are_ascending, ascends_from}
 use Rattle.id_remap.specs.Remapping.{ids_of}
 use Rattle.machine_model.specs.Restores.{chosen_by, if_chosen}
 use Rattle.cluster_core.specs.Restores.{shown_tables}
-use Rattle.cluster_core.proofs.Lists.{find-has}
+use Rattle.machine_model.proofs.Lists.{find-has}
 
 -- ---- the descriptors of a table
 

@@ -25,15 +25,26 @@ use Rattle.layer_manifest.specs.Manifests.{IsProperScope}
 use Rattle.layer_model.specs.declared.names.LayerName.{LayerName}
 use Rattle.layer_model.specs.Names.{IsLayerName}
 use Rattle.backup_job.specs.Jobs.{Job, started}
-use Rattle.layer_objects.specs.Objects.{by_id, described, name_of, plan_of, table_facts, table_kinds, table_threshold}
-use Rattle.layer_objects.specs.Storable.{AreStorable, IsFull, job_of}
-use Rattle.layer_objects.proofs.Writable.{layers-written}
+use Rattle.layer_objects.specs.Objects.{by_id, described, name_of_record, plan_of, table_facts, table_kinds, table_threshold}
+use Rattle.backup_job.specs.Jobs.{IsStillKept}
+use Rattle.backup_job.specs.Records.{job_of}
+use Rattle.backup_job.proofs.Going.{jobs-write}
+use Rattle.introduced_spans.specs.PlanLaws.{IsKept}
+use Rattle.introduced_spans.proofs.Standing.{plan-stands}
+use Rattle.list_laws.proofs.Members.{all-weaker}
+use Rattle.table_rows.specs.RowTables.{bytes_of}
+use Rattle.layer_objects.specs.Objects.{rows_of}
+use Rattle.layer_objects.specs.Storable.{AreStorable}
+use Rattle.cluster_core.specs.FullLayers.{IsFull}
+use Rattle.cluster_core.proofs.FullLayers.{full-record}
+use Rattle.layer_objects.proofs.Writable.{layers-written, now-listed}
 use Rattle.layer_book.specs.Books.{name_in}
 use Rattle.layer_book.specs.Subdirectories.{last_full_of}
 use Rattle.layer_book.proofs.Carried.{last_full_map}
 use Rattle.reply_texts.specs.declared.refusals.Refusal.{Refusal}
 use Rattle.reply_texts.specs.declared.refusals.Refusal.TheVariants.{EndNotAfter}
 use Rattle.machine_model.specs.Machine.{first_refusal, refusal_if}
+use Rattle.machine_model.specs.Machine.{Machine}
 use Rattle.machine_model.specs.Backups.{end_refusal, full_layer, last_full, plan_refusal, refusal_of_plan}
 use Rattle.cluster_core.specs.declared.halts.Halt.{Halt}
 use Rattle.cluster_core.specs.declared.halts.Halt.TheVariants.{Refused, Disk, Memory}
@@ -67,7 +78,7 @@ first-passed (Some refusal) tests e = cc e
 
 -- the last full backup of the book is that of the machine
 pub last-is : (c : ClusterState) (tables : List Table) (collection : List ℕ) → last_full (machine_of c tables) collection ≡ last_full_of name_in collection c.book.layers
-last-is c tables collection = last_full_map record_of name_of collection c.book.layers
+last-is c tables collection = last_full_map record_of name_of_record collection c.book.layers
 
 pub end-is : (c : ClusterState) (tables : List Table) (collection : List ℕ) (end last : Time) → last ≡ last_full_of name_in collection c.book.layers → refusal_if (time_le end last) (EndNotAfter end last) ≡ end_refusal (machine_of c tables) collection end
 end-is c tables collection end last is = ap (λ (t : Time). refusal_if (time_le end t) (EndNotAfter end t)) (is ∙ sym (last-is c tables collection))
@@ -118,8 +129,16 @@ storable c tables k i table got =
       ascend = o.ascend;
     }
 
+-- where no test refuses a full layer, what its plan exports is still kept
+kept-plan : (tables : List Table) (m : Machine) (collection : List ℕ) (scope : Scope) (end : Time) → plan_fault (schemas_of tables) scope zero_time end false (by_id zero_time table_threshold tables) ≡ None
+    → AllByRecursion (IsStillKept (bytes_of (rows_of tables))) (plan_of tables (full_layer m collection scope end)).tables
+unfolding layer_plan span_of plan_of
+kept-plan tables m collection scope end allowed =
+    let threshold = by_id zero_time table_threshold tables in
+    all-weaker (IsKept threshold) (IsStillKept (bytes_of (rows_of tables))) (λ t is. is.export) _ ((plan-stands (schemas_of tables) scope zero_time end false threshold).kept allowed)
+
 pub full-job : (c : ClusterState) (tables : List Table) → Keeps c tables → (collection : List ℕ) (scope : Scope) (end : Time) (n : LayerName) (p : LayerPlan) (job : Job)
-    → layer_refusal (machine_of c tables) collection scope end ≡ None → n ≡ name_of (full_layer (machine_of c tables) collection scope end) → IsLayerName n
+    → layer_refusal (machine_of c tables) collection scope end ≡ None → n ≡ name_of_record (full_layer (machine_of c tables) collection scope end) → IsLayerName n
     → p ≡ plan_of tables (full_layer (machine_of c tables) collection scope end) → job ≡ started n false scope p c.schemas
     → AllByRecursion (λ (t : TablePart). AllByRecursion IsProperSchema t.descriptors) job.manifest.tables
     → plan_fault (schemas_of tables) scope zero_time end false (by_id zero_time table_threshold tables) ≡ None
@@ -129,7 +148,7 @@ full-job c tables k collection scope end n p job passed name-is form plan-is-p j
     let m = machine_of c tables in
     let r = full_layer m collection scope end in
     let is : job ≡ job_of tables r = job-is ∙ (started-same c.schemas (schemas_of tables) n false scope p k.schemas
-    ∙ (ap (λ (x : LayerName). started x false scope p (described tables)) name-is ∙ ap (λ (x : LayerPlan). started (name_of r) false scope x (described tables)) plan-is-p)) in
+    ∙ (ap (λ (x : LayerName). started x false scope p (described tables)) name-is ∙ ap (λ (x : LayerPlan). started (name_of_record r) false scope x (described tables)) plan-is-p)) in
     let full : IsFull r = record {
       name = subst IsLayerName name-is form;
       from_one = omega arith;
@@ -139,13 +158,16 @@ full-job c tables k collection scope end n p job passed name-is form plan-is-p j
       full = refl;
       history = refl;
       scope = scoped;
+      version = refl;
     } in
     let count : length tables ≡ length c.schemas.tables = sym (length-map tables (λ (x : Table). x.descriptors)) ∙ ap length k.schemas in
     let events = k.events in
+    let may = layers-written tables r (storable c tables k) (omega (arith, count, few)) (omega (arith, events, room, limit)) (full-record r full)
+    (now-listed tables r refl (subst (λ (j : Job). AllByRecursion (λ (t : TablePart). AllByRecursion IsProperSchema t.descriptors) j.manifest.tables) is proper)) in
     record {
       passed = passed;
       is = is;
       full = full;
-      may = layers-written tables r (storable c tables k) (omega (arith, count, few)) (omega (arith, events, room, limit)) full
-          (subst (λ (j : Job). AllByRecursion (λ (t : TablePart). AllByRecursion IsProperSchema t.descriptors) j.manifest.tables) is proper) allowed;
+      may = may;
+      writes = jobs-write tables r may refl (kept-plan tables m collection scope end allowed);
     }

@@ -1,5 +1,5 @@
 -- BACKUP over a ready disk, and over every disk.
-use Rattle.std.proofs.Common.{◌≡◌, ℕ, ◌≤◌, true, List, [], ◌∷◌, ◌++◌, Option, Some, None, refl, sym, ap, subst, ◌∙◌, Result, Ok, Err, IsErrAnd}
+use Rattle.std.proofs.Common.{◌≡◌, ℕ, ◌+◌, ◌≤◌, true, Contains, arith, map, length, List, [], ◌∷◌, ◌++◌, Option, Some, None, refl, sym, ap, subst, ◌∙◌, Result, Ok, Err, IsErrAnd}
 use Rattle.std.specs.Prelude.{IfErr, MatchResult, OnOk}
 use Rattle.std.proofs.lemmas.Result.{err_from_is_err_and}
 use Rattle.mvcc_keys.specs.Times.{Time, time_le}
@@ -7,38 +7,46 @@ use Rattle.table_descriptors.specs.declared.scopes.Scope.{Scope}
 use Rattle.history_model.specs.Histories.{Table}
 use Rattle.outside_world.specs.Disk.{View, IsImage, IsKnown, IsSameContent}
 use Rattle.outside_world.specs.Objects.{Objects}
-use Rattle.outside_world.specs.Moments.{ChangesOnly, NoName}
-use Rattle.outside_world.proofs.Runs.{as_read, only_less, still_known}
+use Rattle.outside_world.specs.Moments.{ChangesOnly, IsSettled, NoName}
+use Rattle.outside_world.proofs.Runs.{as_read, only_less, only_none, still_known}
 use Rattle.version_store.specs.Tables.{Tables}
 use Rattle.version_store.specs.MapHolding.{KeepsAll}
 use Rattle.version_store.specs.declared.mvcc_map.MvccMap.{MvccMap}
 use Rattle.table_rows.specs.RowTables.{bytes_of}
 use Rattle.layer_manifest.specs.Manifests.{chunk_count}
-use Rattle.layer_model.specs.Layers.{Layer}
+use Rattle.layer_model.specs.declared.names.LayerName.{LayerName}
+use Rattle.layer_model.specs.Layers.{IsPartName, LayerObjects}
+use Rattle.layer_model.specs.Names.{IsLayerName, IsOwnName}
 use Rattle.layer_model.specs.Stands.{Setting}
 use Rattle.collection_dir.specs.declared.fault.DirFault.{DirFault}
 use Rattle.collection_dir.specs.declared.fault.DirFault.TheVariants as dir
 use Rattle.collection_dir.specs.Faults.{CountsAs, DirHasCause, IsDiskFault}
+use Rattle.collection_dir.specs.Footprints.{AtUnmarked}
+use Rattle.collection_dir.specs.Standing.{KeepManifests}
+use Rattle.collection_dir.proofs.StandsLaws.{ahead-by-one, manifests-by-one, manifests-same, part-own, unmarked-of-all}
 use Rattle.backup_job.specs.Jobs.{Job, IsSameJob, MayRun, completed}
 use Rattle.backup_job.specs.Units.{AtLayer}
 use Rattle.backup_job.specs.Whole.{IsAmong, IsWriting, IsWritten, RunWrites}
-use Rattle.layer_objects.specs.Objects.{objects_of, rows_of}
-use Rattle.layer_objects.specs.Storable.{manifest_of, older_manifest}
+use Rattle.layer_objects.specs.Objects.{manifest_of, objects_of, rows_of}
+use Rattle.layer_objects.specs.Storable.{older_manifest}
+use Rattle.layer_objects.proofs.Names.{objects-name}
+use Rattle.list_laws.specs.Members.{Has}
+use Rattle.std.proofs.lemmas.List.{length_push}
 use Rattle.reply_texts.specs.declared.refusals.Refusal.{Refusal}
 use Rattle.reply_texts.specs.declared.answers.Answer.{Answer}
 use Rattle.reply_texts.specs.declared.replies.Response.{Response}
 use Rattle.machine_model.specs.Machine.{Backup, Machine, Stepped, answered, refused, unless_refused}
 use Rattle.machine_model.specs.Past.{IsLater}
 use Rattle.machine_model.specs.Backups.{backup_done, full_backup, full_layer, with_backup as with_made}
-use Rattle.machine_model.specs.Disks.{IsDone, IsIdle, IsReady, setting_of}
+use Rattle.machine_model.specs.Disks.{IsDone, IsIdle, IsReady, made_layers, setting_of}
 use Rattle.machine_model.proofs.DiskLaws.{ready_leaves}
 use Rattle.cluster_core.specs.declared.halts.Halt.{Halt}
 use Rattle.cluster_core.specs.declared.halts.Halt.TheVariants.{Refused, Disk, Memory}
-use Rattle.cluster_core.specs.ClusterView.{ClusterState}
+use Rattle.cluster_core.specs.ClusterView.{ClusterState, record_of}
 use Rattle.cluster_core.specs.Halting.{halt_of_dir}
-use Rattle.cluster_core.specs.Standing.{HaltCounts, HaltHasCause, IsOwnName, Keeps, MayStep, RefusedBy, Runs, StandsFor, machine_of}
+use Rattle.cluster_core.specs.Standing.{AreAhead, HaltCounts, HaltHasCause, Keeps, MayPut, MayStep, RefusedBy, Runs, StandsFor, machine_of}
 use Rattle.cluster_core.specs.Backing.{IsFullJob, StandsStill, done_of, layer_refusal, with_backup, with_job}
-use Rattle.cluster_core.proofs.Storing.{answer-is, done-ready, failed, few, is-among-layers, is-writing, made, only-disk}
+use Rattle.cluster_core.proofs.Storing.{answer-is, done-ready, failed, few, final-of, has-last, is-among-layers, is-writing, made, only-disk}
 
 -- the disk is ready for the machine of the tables that the cluster has
 pub ready-over : {c : ClusterState} {m to : Machine} {s : Stepped} {v : View} (may : MayStep c m s to v) → IsReady (Some (machine_of c may.stands.tables)) (Some to) v
@@ -63,10 +71,13 @@ halted-runs c m s to v (Refused refusal) test by means only stands ready =
       responds = (subst (λ (x : Stepped). StandsFor c x.machine) (sym is) stands, ap (λ (x : Stepped). x.response) is);
       ready = subst (λ (x : Stepped). IsReady (Some x.machine) (Some to) v) (sym is) ready;
       leaves = ready_leaves (Some m) (Some to) v only ready;
+      changes = only_none v;
+      ahead = λ w among later n is. refl;
+      manifests = manifests-same (made_layers to) v.objects v.objects refl;
       idle = λ done. idle-none v;
     }
 halted-runs c m s to v Disk test by means only stands ready = absurd by
-halted-runs c m s to v Memory test by means only stands ready = record { responds = tt; ready = tt; leaves = ready_leaves (Some m) (Some to) v only ready; idle = λ done. idle-none v }
+halted-runs c m s to v Memory test by means only stands ready = record { responds = tt; ready = tt; leaves = ready_leaves (Some m) (Some to) v only ready; changes = only_none v; ahead = λ w among later n is. refl; manifests = manifests-same (made_layers to) v.objects v.objects refl; idle = λ done. idle-none v }
 
 pub as-returned : (P : Result Answer Halt → Type 0) (r : Result Answer Halt) (e : Halt) → IsErrAnd r (λ y. y ≡ e) → P (Err e) → P r
 as-returned P r e is p = let q = err_from_is_err_and r is in subst P (sym (q.1 ∙ ap Err q.2)) p
@@ -119,16 +130,16 @@ module _ (c : ClusterState) (collection : List ℕ) (scope : Scope) (end clock :
     holds tables k = subst (λ (s : MvccMap). KeepsAll s.tables.entries (bytes_of (rows_of tables))) (sym is) k.rows.bytes
 
     pub may-run : (m : Machine) × StandsFor c m → (h : Tables) × KeepsAll store.tables.entries h × MayRun h job
-    may-run x = let k = x.1.keeps in (bytes_of (rows_of x.1.tables), holds x.1.tables k, (let j = full x.1.tables k in subst (MayRun (bytes_of (rows_of x.1.tables))) (sym j.is) j.may.may))
+    may-run x = let k = x.1.keeps in (bytes_of (rows_of x.1.tables), holds x.1.tables k, (let j = full x.1.tables k in subst (MayRun (bytes_of (rows_of x.1.tables))) (sym j.is) j.writes.may))
 
     same : (tables : List Table) (k : Keeps c tables) → IsSameJob (bytes_of (rows_of tables)) job next
-    same tables k = let j = full tables k in kept (bytes_of (rows_of tables)) (holds tables k) (subst (MayRun (bytes_of (rows_of tables))) (sym j.is) j.may.may)
+    same tables k = let j = full tables k in kept (bytes_of (rows_of tables)) (holds tables k) (subst (MayRun (bytes_of (rows_of tables))) (sym j.is) j.writes.may)
 
     abbrev IsWhole : Type 0
     IsWhole = (h : Tables) → KeepsAll store.tables.entries h → MayRun h job → next.manifest ≡ completed h job
 
     whole-of : IsWhole → (tables : List Table) (k : Keeps c tables) → next.manifest ≡ completed (bytes_of (rows_of tables)) job
-    whole-of whole tables k = let j = full tables k in whole (bytes_of (rows_of tables)) (holds tables k) (subst (MayRun (bytes_of (rows_of tables))) (sym j.is) j.may.may)
+    whole-of whole tables k = let j = full tables k in whole (bytes_of (rows_of tables)) (holds tables k) (subst (MayRun (bytes_of (rows_of tables))) (sym j.is) j.writes.may)
 
     -- ---- every disk
 
@@ -151,11 +162,20 @@ module _ (c : ClusterState) (collection : List ℕ) (scope : Scope) (end clock :
 
     -- only names of the cluster are put
     pub own-changes : (a b : View) → ChangesOnly (AtLayer job.name) NoName a b → (m : Machine) × StandsFor c m → ChangesOnly (IsOwnName c.name) (IsOwnName c.name) a b
-    own-changes a b changes x = let s = x.1 in let j = full s.tables s.keeps in only_less (λ n at. (job.name, at.0, ap (λ (y : Job). y.name.cluster) j.is, at.1)) (λ n never. absurd never) changes
+    own-changes a b changes x = let s = x.1 in let j = full s.tables s.keeps in
+        only_less
+        (λ n at. record {
+          object = record { layer = job.name; part = at.0 };
+          form = record { layer = subst IsLayerName (sym (ap (λ (y : Job). y.name) j.is)) j.full.name; part = at.1 };
+          own = ap (λ (y : Job). y.name.cluster) j.is;
+          spelled = at.2;
+        })
+        (λ n never. absurd never)
+        changes
 
     -- ---- a ready disk
 
-    module _ (first now : View) (disk : (h : Tables) → KeepsAll store.tables.entries h → (older : Layer → List ℕ) (s : Setting) (w : Layer) → IsAmong s w → IsWriting older s w h job first → RunWrites older s w (completed h job) result next first now)
+    module _ (first now : View) (disk : (h : Tables) → KeepsAll store.tables.entries h → (older : LayerObjects → List ℕ) (s : Setting) (w : LayerObjects) → IsAmong s w → IsWriting older s w h job first → RunWrites older s w (completed h job) result next first now)
         (counts : (t : ℕ) (image : Objects) → IsKnown now → t ≤ now.moment → IsImage now image → now.left_since t image) where
       later-of : (m to : Machine) (may : MayStep c m (means m) to first) → IsLater (with_made (machine_of c may.stands.tables) clock (full_layer (machine_of c may.stands.tables) collection scope end)) to
       later-of m to may =
@@ -175,15 +195,65 @@ module _ (c : ClusterState) (collection : List ℕ) (scope : Scope) (end clock :
       idle m to may done =
           let s = may.stands in
           let among = is-among-layers c s.tables s.keeps s.backups collection scope end clock within on job (full s.tables s.keeps) to first (ready-over may) (later-of m to may) in
-          idle-same first now ((writes m to may).calm (done _ among.started).0)
+          idle-same first now ((writes m to may).calm (done _ among.started.among).0)
+
+      among-of : (m to : Machine) (may : MayStep c m (means m) to first) → IsAmong (setting_of to) (objects_of may.stands.tables (full_layer (machine_of c may.stands.tables) collection scope end))
+      among-of m to may =
+          let s = may.stands in
+          is-among-layers c s.tables s.keeps s.backups collection scope end clock within on job (full s.tables s.keeps) to first (ready-over may) (later-of m to may)
+
+      made-of : (m to : Machine) (may : MayStep c m (means m) to first) → means m ≡ answered (with_made (machine_of c may.stands.tables) clock (full_layer (machine_of c may.stands.tables) collection scope end))
+          (backup_done (full_layer (machine_of c may.stands.tables) collection scope end) (manifest_of may.stands.tables (full_layer (machine_of c may.stands.tables) collection scope end)))
+      made-of m to may = let s = may.stands in ap means s.machine_is ∙ layer-made (machine_of c s.tables) collection scope end clock (full s.tables s.keeps).passed
+
+      -- of the layers that the script makes only this one's names are put, and none of a chunk that was marked
+      puts : (m to : Machine) → MayStep c m (means m) to first → ChangesOnly (MayPut (means m).machine to first.objects) (IsOwnName to.name) first now
+      puts m to may =
+          let s = may.stands in
+          let r = full_layer (machine_of c s.tables) collection scope end in
+          let w = objects_of s.tables r in
+          let among = (among-of m to may).started in
+          let final = final-of c s.tables s.keeps s.backups collection scope end clock within on job (full s.tables s.keeps) to first (ready-over may) (later-of m to may) in
+          let has : Has r (means m).machine.layers = subst (λ (x : Stepped). Has r x.machine.layers) (sym (made-of m to may)) (has-last r (map record_of c.book.layers)) in
+          only_less
+          (λ n at. (
+            part-own (setting_of to) among.proper w among.among n at.0,
+            unmarked-of-all (setting_of to) among.proper w among.among first.objects n at,
+            (r, has, subst (Contains (made_layers to)) (sym final) among.among, subst (λ (x : LayerObjects). IsPartName x n) (sym final) at.0),
+          ))
+          (λ n never. absurd never)
+          (writes m to may).changes
+
+      -- the layers of jobs that are still to come are as they were
+      ahead : (m to : Machine) → MayStep c m (means m) to first → AreAhead (means m).machine to first.objects now.objects
+      ahead m to may =
+          let s = may.stands in
+          let r = full_layer (machine_of c s.tables) collection scope end in
+          let w = objects_of s.tables r in
+          let among = (among-of m to may).started in
+          let run = writes m to may in
+          let number : w.name.job ≡ length c.jobs + 1 = ap (λ (n : LayerName). n.job) (objects-name s.tables r) in
+          let jobs : length (means m).machine.jobs ≡ length (c.jobs ++ Backup r ∷ []) = ap (λ (x : Stepped). length x.machine.jobs) (made-of m to may) in
+          let one_more = length_push c.jobs (Backup r) in
+          ahead-by-one (setting_of to) among.proper w among.among (AtUnmarked w first.objects) NoName (λ n at. at.0) (λ n never. absurd never) first now may.ready.known.tells run.changes
+          (length (means m).machine.jobs) (omega (arith, number, jobs, one_more))
+
+      -- and the others keep their manifests
+      manifests : (m to : Machine) → MayStep c m (means m) to first → KeepManifests (made_layers to) first.objects now.objects
+      manifests m to may =
+          let s = may.stands in
+          let w = objects_of s.tables (full_layer (machine_of c s.tables) collection scope end) in
+          let among = (among-of m to may).started in
+          let run = writes m to may in
+          manifests-by-one (setting_of to) among.proper w among.among (AtUnmarked w first.objects) NoName (λ n at. at.0) (λ n never. absurd never) first now may.ready.known.tells run.changes run.keeps
 
       -- the disk failed, or memory was wanting
       pub memory-runs : (new : ClusterState) (r : Result Answer Halt) → IsErrAnd r (λ y. y ≡ Memory) → (m to : Machine) → MayStep c m (means m) to first → Runs new (means m) to r first now
-      memory-runs new r is-err m to may = as-returned (λ (x : Result Answer Halt). Runs new (means m) to x first now) r Memory is-err (record { responds = tt; ready = tt; leaves = (writes m to may).moments; idle = idle m to may })
+      memory-runs new r is-err m to may = as-returned (λ (x : Result Answer Halt). Runs new (means m) to x first now) r Memory is-err (record { responds = tt; ready = tt; leaves = (writes m to may).moments; changes = puts m to may; ahead = ahead m to may; manifests = manifests m to may; idle = idle m to may })
 
       fault-ends : (new : ClusterState) (m to : Machine) (may : MayStep c m (means m) to first) (fault : DirFault) → IsDiskFault fault → Runs new (means m) to (Err (halt_of_dir fault)) first now
-      fault-ends new m to may dir.Failed ok = record { responds = tt; ready = tt; leaves = (writes m to may).moments; idle = idle m to may }
-      fault-ends new m to may dir.Memory ok = record { responds = tt; ready = tt; leaves = (writes m to may).moments; idle = idle m to may }
+      fault-ends new m to may dir.Failed ok = record { responds = tt; ready = tt; leaves = (writes m to may).moments; changes = puts m to may; ahead = ahead m to may; manifests = manifests m to may; idle = idle m to may }
+      fault-ends new m to may dir.Memory ok = record { responds = tt; ready = tt; leaves = (writes m to may).moments; changes = puts m to may; ahead = ahead m to may; manifests = manifests m to may; idle = idle m to may }
       fault-ends new m to may (dir.Damaged object wanted found) never = absurd never
       fault-ends new m to may (dir.Malformed object offset) never = absurd never
       fault-ends new m to may (dir.LayerDiffers object wanted found) never = absurd never
@@ -204,8 +274,9 @@ module _ (c : ClusterState) (collection : List ℕ) (scope : Scope) (end clock :
           let is-made = ap means s.machine_is ∙ layer-made x collection scope end clock j.passed in
           let known = still_known may.ready.known run.changes.kind in
           let stands = run.moments.each now.objects (counts first.moment now.objects known run.moments.later (as_read now)) in
-          let ready = done-ready c s.tables s.keeps s.backups collection scope end clock within on job j to first (ready-over may) (later-of m to may) now run.changes
-          (subst (λ (y : Result (Unit {0}) DirFault). OnOk y (IsWritten older_manifest (objects_of s.tables (full_layer x collection scope end)) now)) is-ok run.is_written) stands in
+          let ready = done-ready c s.tables s.keeps s.backups collection scope end clock within on job j to first (ready-over may) (later-of m to may) now (only_less (λ n at. at.0) (λ n never. never) run.changes)
+          (subst (λ (y : Result (Unit {0}) DirFault). OnOk y (IsWritten older_manifest (objects_of s.tables (full_layer x collection scope end)) now)) is-ok run.is_written)
+          (subst (λ (y : Result (Unit {0}) DirFault). OnOk y (IsSettled now)) is-ok (run.settled may.ready.settled)) stands in
           record {
             responds = (
               subst (λ (y : Stepped). StandsFor new y.machine) (sym is-made) (subst (λ (n : ClusterState). StandsFor n (with_made x clock (full_layer x collection scope end))) (sym is-new)
@@ -214,5 +285,8 @@ module _ (c : ClusterState) (collection : List ℕ) (scope : Scope) (end clock :
             );
             ready = subst (λ (y : Stepped). IsReady (Some y.machine) (Some to) now) (sym is-made) ready;
             leaves = run.moments;
+            changes = puts m to may;
+            ahead = ahead m to may;
+            manifests = manifests m to may;
             idle = idle m to may;
           }

@@ -7,17 +7,17 @@ use Rattle.std.proofs.lemmas.List.{reverse-append}
 use Rattle.mvcc_keys.specs.Times.{Time, time_le}
 use Rattle.table_descriptors.specs.Descriptors.{Schema}
 use Rattle.history_model.specs.Histories.{Table, in_force, schemas_of}
-use Rattle.history_model.specs.Layers.{Layer}
+use Rattle.history_model.specs.Layers.{LayerRecord}
 use Rattle.schema_catalog.specs.Catalogs.{history_of}
 use Rattle.introduced_spans.specs.Publicity.{is_public, public_at}
 use Rattle.introduced_spans.specs.Spans.{descriptors_of, is_member, is_member_over, members_of, scope_ids, table_plan, layer_descriptors}
 use Rattle.layer_manifest.specs.declared.manifest.TablePart.{TablePart}
-use Rattle.backup_job.specs.Contents.{part_of, with_each}
-use Rattle.backup_job.specs.Jobs.{remaining}
+use Rattle.layer_objects.specs.Contents.{part_of, with_each}
 use Rattle.mvcc_keys.specs.declared.entries.Entry.{Entry}
-use Rattle.table_rows.specs.RowTables.{bytes_of}
-use Rattle.layer_objects.specs.Objects.{bare, covers, described, plan_of, rows_of}
-use Rattle.layer_objects.specs.Storable.{IsFull, job_of, manifest_of}
+use Rattle.layer_manifest.specs.declared.manifest.Manifest.{Manifest}
+use Rattle.layer_objects.specs.Objects.{bare, covers, described, manifest_of, pieces_in, plan_of}
+use Rattle.cluster_core.specs.FullLayers.{IsFull}
+use Rattle.cluster_core.proofs.FullLayers.{manifest-full}
 use Rattle.machine_model.specs.Restores.{chosen_by, chosen_tables, if_chosen}
 use Rattle.cluster_core.proofs.Covers.{find-passes}
 
@@ -69,17 +69,18 @@ each-same f (t ∷ ts) [] = refl
 each-same f (t ∷ ts) (p ∷ ps) = ap (cons_option (f t.descriptors)) (each-same f ts ps)
 
 -- what the manifest of a full layer shows public at the end is what the tables do
-pub chosen-shown : (tables : List Table) (r : Layer) (database : List ℕ) → IsFull r → filter_map (λ (part : TablePart). chosen_by database r.end part.descriptors) (manifest_of tables r).tables ≡ chosen_tables tables database r.end r
+pub chosen-shown : (tables : List Table) (r : LayerRecord) (database : List ℕ) → IsFull r → filter_map (λ (part : TablePart). chosen_by database r.end part.descriptors) (manifest_of tables r).tables ≡ chosen_tables tables database r.end r
 unfolding chosen_tables plan_of table_plan members_of
 chosen-shown tables r database full =
     let D = schemas_of tables in
     let s = covers r in
     let shown : TablePart → Option Schema = λ part. chosen_by database r.end part.descriptors in
     let part = part_of (described tables) r.history (plan_of tables r).floor r.end in
-    each-same (chosen_by database r.end) (bare tables r).tables (remaining (bytes_of (rows_of tables)) (job_of tables r))
+    ap (λ (m : Manifest). filter_map shown m.tables) (manifest-full tables r full)
+    ∙ (each-same (chosen_by database r.end) (bare tables r).tables (pieces_in tables r)
     ∙ (filter_map-map shown part (plan_of tables r).tables
     ∙ (filter_map-map (λ plan. shown (part plan)) (table_plan D s) (members_of D r.scope s)
     ∙ filter_map-filter (λ id. shown (part (table_plan D s id))) (λ id. chosen_by database r.end (descriptors_of D id)) (is_member D s)
     (λ id. ap (λ b. chosen_by database r.end (layer_descriptors b (plan_of tables r).floor r.end (history_of (described tables) id))) full.history ∙ ap (option_and_then (if_chosen database)) (found-again (descriptors_of D id) r.end))
     (λ id hidden. none-chosen database (descriptors_of D id) r.end (sym (ap (λ b. is_member_over b s (descriptors_of D id)) full.history) ∙ hidden))
-    (scope_ids D r.scope)))
+    (scope_ids D r.scope))))

@@ -11,8 +11,8 @@ use Rattle.mvcc_keys.proofs.TimeOrder.{eq-is}
 use Rattle.fact_model.proofs.Orders.{ordered-has}
 use Rattle.layer_manifest.specs.declared.manifest.Manifest.{Manifest}
 use Rattle.layer_model.specs.declared.names.LayerName.{LayerName}
-use Rattle.layer_objects.specs.Objects.{name_of}
-use Rattle.layer_objects.specs.Storable.{IsFull}
+use Rattle.layer_objects.specs.Objects.{name_of_record}
+use Rattle.cluster_core.specs.FullLayers.{IsFull}
 use Rattle.layer_book.specs.Books.{name_in}
 use Rattle.layer_book.specs.Subdirectories.{is_in, layers_of, place_cmp, subdirectories_of}
 use Rattle.layer_book.proofs.Carried.{layers_map, subdirectories_map}
@@ -32,7 +32,7 @@ use Rattle.cluster_core.specs.ClusterView.{ClusterState, record_of}
 use Rattle.cluster_core.specs.Standing.{HasBackups, machine_of}
 use Rattle.cluster_core.specs.Backing.{AreLayersFrom}
 use Rattle.cluster_core.specs.Chains.{IsChain, IsChainFault, IsOneLayer, with_chain}
-use Rattle.cluster_core.proofs.Lists.{got-has}
+use Rattle.machine_model.proofs.Lists.{got-has}
 use Rattle.list_laws.proofs.Bools.{and-parts}
 
 -- ---- lists
@@ -74,18 +74,18 @@ module _ (c : ClusterState) (tables : List Table) (b : HasBackups c tables) wher
 
 -- ---- what is done with a chain
 
-module _ (c : ClusterState) (tables : List Table) (source : Src) (collection : List ℕ) (at : Option Time) (change : Time → List records.Layer → Stepped) where
-  abbrev over : List records.Layer → Stepped
+module _ (c : ClusterState) (tables : List Table) (source : Src) (collection : List ℕ) (at : Option Time) (change : Time → List records.LayerRecord → Stepped) where
+  abbrev over : List records.LayerRecord → Stepped
   over rs = with_cover (machine_of c tables) rs (cover (links_of rs) (time_of rs at)) (change (time_of rs at))
 
   own-among : (o : Option (List ℕ × Time)) → source_among source (subdirectories_of name_in collection c.book.layers) ≡ o
-      → with_chain (machine_of c tables) source collection at change ≡ with_found (machine_of c tables) NoSuchBackup o (λ s. over (layers_of name_of collection s.0 s.1 (map record_of c.book.layers)))
-  own-among o e = ap (λ x. with_found (machine_of c tables) NoSuchBackup x (λ s. over (layers_of name_of collection s.0 s.1 (map record_of c.book.layers)))) (ap (source_among source) (subdirectories_map record_of name_of collection c.book.layers) ∙ e)
+      → with_chain (machine_of c tables) source collection at change ≡ with_found (machine_of c tables) NoSuchBackup o (λ s. over (layers_of name_of_record collection s.0 s.1 (map record_of c.book.layers)))
+  own-among o e = ap (λ x. with_found (machine_of c tables) NoSuchBackup x (λ s. over (layers_of name_of_record collection s.0 s.1 (map record_of c.book.layers)))) (ap (source_among source) (subdirectories_map record_of name_of_record collection c.book.layers) ∙ e)
 
   from-over : (layers : List (LayerName × Manifest)) → AreLayersFrom c.book source collection layers → with_chain (machine_of c tables) source collection at change ≡ over (map record_of layers)
   from-over layers from =
       own-among (Some from.subdirectory) from.among
-      ∙ ap over (layers_map record_of name_of collection from.subdirectory.0 from.subdirectory.1 c.book.layers ∙ ap (map record_of) (sym from.are))
+      ∙ ap over (layers_map record_of name_of_record collection from.subdirectory.0 from.subdirectory.1 c.book.layers ∙ ap (map record_of) (sym from.are))
 
   -- the change is made over the chain that is found
   pub chain-told : (x : Chain) → IsChain c.book source collection at x → with_chain (machine_of c tables) source collection at change ≡ change x.time (map record_of x.layers.items)

@@ -14,6 +14,9 @@ use Rattle.layer_manifest.specs.Manifests.{IsProperScope, comes_after}
 use Rattle.history_model.specs.Histories.{Table, schemas_of}
 use Rattle.outside_world.specs.Disk.{View, IsImage, IsKnown}
 use Rattle.outside_world.specs.Objects.{Objects}
+use Rattle.outside_world.proofs.Runs.{only_none}
+use Rattle.collection_dir.proofs.StandsLaws.{manifests-same}
+use Rattle.machine_model.specs.Disks.{made_layers}
 use Rattle.reply_texts.specs.declared.refusals.Refusal.{Refusal}
 use Rattle.reply_texts.specs.declared.refusals.Refusal.TheVariants.{ClockFull, Future}
 use Rattle.reply_texts.specs.declared.answers.Answer.{Answer}
@@ -28,7 +31,7 @@ use Rattle.cluster_core.specs.Standing.{Keeps, MayStep, RefusedBy, Runs, StandsF
 use Rattle.cluster_core.specs.Backing.{IsEnding, IsEndingFault}
 use Rattle.cluster_core.proofs.BackingUp.{as-returned, halted-runs, idle-none}
 use Rattle.cluster_core.proofs.Flow.{catalog-is, passes, same-refused, stops}
-use Rattle.cluster_core.proofs.Kept.{next-later}
+use Rattle.machine_model.proofs.Past.{next-later}
 use Rattle.mvcc_keys.proofs.TimeOrder.{lt-le, le-refl}
 
 -- ---- runs of equal meaning
@@ -84,7 +87,7 @@ module _ (m : Machine) (collection : List ℕ) (scope : Scope) (end clock : Time
 
 -- a command that wanted memory before it changed anything
 pub memory-halted : (c : ClusterState) (m : Machine) (s : Stepped) (to : Machine) (v : View) → (IsKnown v → (image : Objects) → v.left_since v.moment image → IsImage v image) → (r : Result Answer Halt) → IsErrAnd r (λ y. y ≡ Memory) → MayStep c m s to v → Runs c s to r v v
-memory-halted c m s to v only r is may = as-returned (λ (x : Result Answer Halt). Runs c s to x v v) r Memory is (record { responds = tt; ready = tt; leaves = ready_leaves (Some m) (Some to) v only may.ready; idle = λ done. idle-none v })
+memory-halted c m s to v only r is may = as-returned (λ (x : Result Answer Halt). Runs c s to x v v) r Memory is (record { responds = tt; ready = tt; leaves = ready_leaves (Some m) (Some to) v only may.ready; changes = only_none v; ahead = λ w among later n is. refl; manifests = manifests-same (made_layers to) v.objects v.objects refl; idle = λ done. idle-none v })
 
 -- ---- a backup up to its end
 

@@ -14,7 +14,7 @@ use Rattle.reply_texts.specs.declared.refusals.Refusal.{Refusal}
 use Rattle.reply_texts.specs.declared.refusals.Refusal.TheVariants.{NoSuchTable}
 use Rattle.reply_texts.specs.declared.answers.Answer.{Answer}
 use Rattle.reply_texts.specs.declared.replies.Response.{Response}
-use Rattle.machine_model.specs.Machine.{Machine, Stepped, refused, answered, judged, drawing, with_time, with_table, with_found, catalog_of}
+use Rattle.machine_model.specs.Machine.{Machine, Stepped, refused, answered, judged, drawing, with_time, for_table, with_found, catalog_of}
 use Rattle.machine_model.specs.Refusals.{refusal_of_catalog, refusal_of_rows, catalog_refusal, rows_refusal}
 use Rattle.cluster_core.specs.declared.halts.Halt.{Halt}
 use Rattle.cluster_core.specs.declared.halts.Halt.TheVariants.{Refused, Disk, Memory}
@@ -88,11 +88,11 @@ same-refused m a b e = let same : a ≡ b = cc e in ap (refused m) same
 pub draws : (m : Machine) (change : Time → Stepped) (t : Time) → next m.clock ≡ Some t → drawing m change ≡ change t
 draws m change t is = ap (λ (t : Option Time). with_time m t change) is
 
-pub missing : (c : ClusterState) (tables : List Table) (name : List ℕ × List ℕ) (t : Time) (change : Found → Stepped) → Keeps c tables → found_in c.schemas name t ≡ None → with_table (machine_of c tables) name t change ≡ refused (machine_of c tables) (NoSuchTable name)
+pub missing : (c : ClusterState) (tables : List Table) (name : List ℕ × List ℕ) (t : Time) (change : Found → Stepped) → Keeps c tables → found_in c.schemas name t ≡ None → for_table (machine_of c tables) name t change ≡ refused (machine_of c tables) (NoSuchTable name)
 missing c tables name t change k e = ap (λ (f : Option Found). with_found (machine_of c tables) (NoSuchTable name) f change) (misses c.schemas tables name t k.schemas e)
 
 pub finds : (c : ClusterState) (tables : List Table) (name : List ℕ × List ℕ) (t : Time) (id : ℕ) (d : Schema) (change : Found → Stepped) → Keeps c tables → (w : Sees tables name t id d)
-    → with_table (machine_of c tables) name t change ≡ change (record { place = w.place; table = w.table; schema = d })
+    → for_table (machine_of c tables) name t change ≡ change (record { place = w.place; table = w.table; schema = d })
 finds c tables name t id d change k w = ap (λ (f : Option Found). with_found (machine_of c tables) (NoSuchTable name) f change) w.named_is
 
 -- the catalog of the machine

@@ -22,15 +22,17 @@ use Rattle.layer_model.specs.declared.names.LayerName.{LayerName}
 use Rattle.layer_model.specs.declared.names.Part.{Part}
 use Rattle.layer_model.specs.declared.names.Part.TheVariants.{Gate, Chunk, Mark}
 use Rattle.layer_model.specs.declared.names.Part.TheVariants as part
-use Rattle.layer_model.specs.Names.{object_name}
-use Rattle.layer_model.specs.Layers.{IsPartName, Layer}
+use Rattle.layer_model.specs.Names.{IsNumbered, IsOwnName, object_name}
+use Rattle.layer_model.specs.Layers.{IsPartName, LayerObjects}
 use Rattle.collection_dir.specs.declared.fault.DirFault.{DirFault}
 use Rattle.collection_dir.specs.declared.fault.DirFault.TheVariants as dir
 use Rattle.collection_dir.specs.Faults.{IsDiskFault}
+use Rattle.collection_dir.specs.Finishing.{StaysOver}
 use Rattle.collection_dir.specs.Footprints.{AtForget}
 use Rattle.collection_dir.specs.Safety.{IsForgotten, IsKept, MayForget}
-use Rattle.collection_dir.proofs.StandsLaws.{stands-throughout}
-use Rattle.layer_objects.specs.Objects.{name_of, objects_of}
+use Rattle.collection_dir.specs.Standing.{KeepManifests}
+use Rattle.collection_dir.proofs.StandsLaws.{ahead-by-one, manifests-by-one, part-own, stands-throughout}
+use Rattle.layer_objects.specs.Objects.{name_of_record, objects_of}
 use Rattle.layer_objects.specs.Storable.{older_manifest}
 use Rattle.layer_objects.proofs.Names.{objects-name}
 use Rattle.layer_book.specs.Books.{name_in, same_name, without_layer}
@@ -38,7 +40,7 @@ use Rattle.layer_book.specs.Subdirectories.{is_in, layers_of, place_cmp, subdire
 use Rattle.script_grammar.specs.declared.backups.Src.{Src}
 use Rattle.reply_texts.specs.declared.refusals.Refusal.TheVariants.{NoSuchBackup, NoSuchLayer}
 use Rattle.reply_texts.specs.declared.answers.Answer.TheVariants.{Plain}
-use Rattle.machine_model.specs.Machine.{Backup, Machine, Stepped, answered, refused, with_found}
+use Rattle.machine_model.specs.Machine.{Backup, Job, Machine, Stepped, answered, refused, with_found}
 use Rattle.machine_model.specs.Past.{IsLater}
 use Rattle.machine_model.specs.Backups.{forget, forgetting, is_between_times, layers_in, source_among}
 use Rattle.machine_model.specs.Disks.{IsDone, IsGone, IsReady, IsThere, StandsUntil, made_layers, setting_of}
@@ -48,11 +50,11 @@ use Rattle.cluster_core.specs.declared.halts.Halt.{Halt}
 use Rattle.cluster_core.specs.declared.halts.Halt.TheVariants.{Refused, Disk, Memory}
 use Rattle.cluster_core.specs.ClusterView.{ClusterState, record_of}
 use Rattle.cluster_core.specs.Halting.{halt_of_dir}
-use Rattle.cluster_core.specs.Standing.{HasBackups, IsOwnBackup, IsOwnName, Keeps, MayStep, Runs, StandsFor, machine_of}
+use Rattle.cluster_core.specs.Standing.{AreAhead, HasBackups, IsOwnBackup, Keeps, MayPut, MayStep, Runs, StandsFor, machine_of}
 use Rattle.cluster_core.specs.Backing.{AreLayersFrom, IsSourceFault}
 use Rattle.cluster_core.proofs.BackingUp.{halted-runs, ready-over}
 use Rattle.cluster_core.proofs.Kept.{keeps-as}
-use Rattle.cluster_core.proofs.Lists.{find-has}
+use Rattle.machine_model.proofs.Lists.{find-has}
 use Rattle.cluster_core.proofs.Others.{IsSameOf, still-gone, still-there}
 use Rattle.cluster_core.proofs.Sources.{between-is, layers-are, others-map, subdirectories-in}
 use Rattle.cluster_core.proofs.Storing.{IsPast, got-first, has-place, own-place, past-backup, same-backups}
@@ -74,25 +76,25 @@ other-job m n other = elim (cases_Bool (same_name m n)) [
 ]
 
 -- forgetting changes names of the layer's parts
-part-at : (layer : LayerName) (chunks : ℕ) (w : Layer) → w.name ≡ layer → length w.chunks ≡ chunks → (n : List ℕ) → AtForget layer chunks n → IsPartName w n
+part-at : (layer : LayerName) (chunks : ℕ) (w : LayerObjects) → w.name ≡ layer → length w.chunks ≡ chunks → (n : List ℕ) → AtForget layer chunks n → IsPartName w n
 part-at layer chunks w name count n (inl e) = (Gate, tt, e ∙ ap (λ (x : LayerName). object_name x Gate) (sym name))
 part-at layer chunks w name count n (inr (inl x)) = (Mark x.0, (let l = x.1 in omega (arith, l, count)), x.2 ∙ ap (λ (y : LayerName). object_name y (Mark x.0)) (sym name))
 part-at layer chunks w name count n (inr (inr (inl e))) = (part.Manifest, tt, e ∙ ap (λ (x : LayerName). object_name x part.Manifest) (sym name))
 part-at layer chunks w name count n (inr (inr (inr x))) = (Chunk x.0, (let l = x.1 in omega (arith, l, count)), x.2 ∙ ap (λ (y : LayerName). object_name y (Chunk x.0)) (sym name))
 
-part-of : (layer : LayerName) (chunks : ℕ) (n : List ℕ) → AtForget layer chunks n → (part : Part) × (n ≡ object_name layer part)
-part-of layer chunks n (inl e) = (Gate, e)
-part-of layer chunks n (inr (inl x)) = (Mark x.0, x.2)
-part-of layer chunks n (inr (inr (inl e))) = (part.Manifest, e)
-part-of layer chunks n (inr (inr (inr x))) = (Chunk x.0, x.2)
+part-of : (layer : LayerName) (chunks : ℕ) → chunks ≤ 1000000 → (n : List ℕ) → AtForget layer chunks n → (part : Part) × IsNumbered part × (n ≡ object_name layer part)
+part-of layer chunks few n (inl e) = (Gate, tt, e)
+part-of layer chunks few n (inr (inl x)) = (Mark x.0, (let l = x.1 in omega (arith, l, few)), x.2)
+part-of layer chunks few n (inr (inr (inl e))) = (part.Manifest, tt, e)
+part-of layer chunks few n (inr (inr (inr x))) = (Chunk x.0, (let l = x.1 in omega (arith, l, few)), x.2)
 
-all-gone : (layer : LayerName) (chunks : ℕ) (w : Layer) (objects : Objects) → w.name ≡ layer → length w.chunks ≡ chunks → IsForgotten layer chunks objects → IsGone w objects
+all-gone : (layer : LayerName) (chunks : ℕ) (w : LayerObjects) (objects : Objects) → w.name ≡ layer → length w.chunks ≡ chunks → IsForgotten layer chunks objects → IsGone w objects
 all-gone layer chunks w objects name count gone Gate has = ap (λ (x : LayerName). at objects (object_name x Gate)) name ∙ gone.gate
 all-gone layer chunks w objects name count gone part.Manifest has = ap (λ (x : LayerName). at objects (object_name x part.Manifest)) name ∙ gone.manifest
 all-gone layer chunks w objects name count gone (Chunk i) has = ap (λ (x : LayerName). at objects (object_name x (Chunk i))) name ∙ gone.chunks_gone i (omega (arith, has, count))
 all-gone layer chunks w objects name count gone (Mark i) has = ap (λ (x : LayerName). at objects (object_name x (Mark i))) name ∙ gone.marks_gone i (omega (arith, has, count))
 
-same-record : (q r : recorded.Layer) → Some (Backup q) ≡ Some (Backup r) → q ≡ r
+same-record : (q r : recorded.LayerRecord) → Some (Backup q) ≡ Some (Backup r) → q ≡ r
 same-record q r e = cc e
 
 module _ (c : ClusterState) (source : Src) (collection : List ℕ) (start end : Time) where
@@ -122,7 +124,7 @@ module _ (c : ClusterState) (source : Src) (collection : List ℕ) (start end : 
         let m = machine_of c tables in
         ap (λ (o : Option (List ℕ × Time)). with_found m NoSuchBackup o (λ s. with_found m NoSuchLayer (find (is_between_times start end) (layers_in m collection s)) (λ r. answered (forgetting m r) Plain)))
         (ap (source_among source) (subdirectories-in c tables collection) ∙ from.among)
-        ∙ ap (λ (o : Option recorded.Layer). with_found m NoSuchLayer o (λ r. answered (forgetting m r) Plain))
+        ∙ ap (λ (o : Option recorded.LayerRecord). with_found m NoSuchLayer o (λ r. answered (forgetting m r) Plain))
         (ap (find (is_between_times start end)) (layers-are c tables collection from.subdirectory ∙ ap (map record_of) (sym from.are)) ∙ between-is start end ls)
 
     -- no layer has these times
@@ -135,7 +137,7 @@ module _ (c : ClusterState) (source : Src) (collection : List ℕ) (start end : 
         halted-runs c m (means m) to v (Refused NoSuchLayer) (Some NoSuchLayer) refl (λ y same. is-m ∙ ap (refused m) (let e : NoSuchLayer ≡ y = cc same in e)) only s may.ready
 
     module _ (p : LayerName × Manifest) (found : find (λ x. is_between_times start end (record_of x)) ls ≡ Some p) where
-      abbrev r : recorded.Layer
+      abbrev r : recorded.LayerRecord
       r = record_of p
 
       abbrev without : ClusterState
@@ -162,16 +164,22 @@ module _ (c : ClusterState) (source : Src) (collection : List ℕ) (start end : 
           omega (arith, n, l)
 
       -- only names of the cluster are removed
-      pub own-changes : (chunks : ℕ) (a b : View) → ChangesOnly NoName (AtForget p.0 chunks) a b → (m : Machine) × StandsFor c m → ChangesOnly (IsOwnName c.name) (IsOwnName c.name) a b
-      own-changes chunks a b changes x =
+      pub own-changes : (chunks : ℕ) → chunks ≡ chunk_count p.1.tables → (a b : View) → ChangesOnly NoName (AtForget p.0 chunks) a b → (m : Machine) × StandsFor c m → ChangesOnly (IsOwnName c.name) (IsOwnName c.name) a b
+      own-changes chunks count a b changes x =
           let s = x.1 in
-          only_less (λ n no. absurd no) (λ n at. let q = part-of p.0 chunks n at in (p.0, q.0, (own s.tables s.backups).cluster, q.1)) changes
+          let few = few-chunks x in
+          let o = own s.tables s.backups in
+          only_less (λ n no. absurd no)
+          (λ n at.
+          let q = part-of p.0 chunks (omega (arith, count, few)) n at in
+          record { object = record { layer = p.0; part = q.0 }; form = record { layer = o.full.name; part = q.1 }; own = o.cluster; spelled = q.2 })
+          changes
 
       taken : (tables : List Table) → Keeps c tables → HasBackups c tables → StandsFor without (forgetting (machine_of c tables) r)
       taken tables k b = record {
         tables = tables;
         keeps = keeps-as c without tables k refl refl refl (le-refl c.clock);
-        machine_is = ap (λ (qs : List recorded.Layer). record (machine_of c tables) { layers = qs }) (sym (others-map p.0 r refl c.book.layers));
+        machine_is = ap (λ (qs : List recorded.LayerRecord). record (machine_of c tables) { layers = qs }) (sym (others-map p.0 r refl c.book.layers));
         backups = record {
           backups = λ place q got. (let o = b.backups place q got in record { number = o.number; cluster = o.cluster; full = o.full; over = o.over; few = o.few });
           layers = λ x has. b.layers x (filter-has (λ y. not (same_name y.0 p.0)) x c.book.layers has);
@@ -186,15 +194,15 @@ module _ (c : ClusterState) (source : Src) (collection : List ℕ) (start end : 
 
       -- ---- a ready disk
 
-      module _ (chunks : ℕ) (count : chunks ≡ chunk_count p.1.tables) (first now : View) (kept : (w : Layer) (older : List ℕ) → MayForget w older p.0 chunks first → LeavesOnly first now (IsKept (AtForget p.0 chunks) w older first)) where
+      module _ (chunks : ℕ) (count : chunks ≡ chunk_count p.1.tables) (first now : View) (kept : (w : LayerObjects) (older : List ℕ) → MayForget w older p.0 chunks first → LeavesOnly first now (IsKept (AtForget p.0 chunks) w older first)) where
         module _ (tables : List Table) (k : Keeps c tables) (b : HasBackups c tables) (to : Machine) (ready : IsReady (Some (machine_of c tables)) (Some to) first) (later : IsLater (forgetting (machine_of c tables) r) to) where
           abbrev ends : List Table
           ends = to.history.tables
 
-          abbrev w : Layer
+          abbrev w : LayerObjects
           w = objects_of ends r
 
-          past-of : (place : ℕ) (q : recorded.Layer) → slice_get c.jobs place ≡ Some (Backup q) → IsPast tables ends q
+          past-of : (place : ℕ) (q : recorded.LayerRecord) → slice_get c.jobs place ≡ Some (Backup q) → IsPast tables ends q
           past-of place q got = past-backup c tables ends c.clock k later.tables (le-refl c.clock) place q (b.backups place q got)
 
           own-past : IsPast tables ends r
@@ -212,7 +220,7 @@ module _ (c : ClusterState) (source : Src) (collection : List ℕ) (start end : 
               })
 
           counted : length w.chunks ≡ chunks
-          counted = ap (λ (x : Layer). length x.chunks) own-past.final_is ∙ (sym (b.layers p in-book).chunks ∙ sym count)
+          counted = ap (λ (x : LayerObjects). length x.chunks) own-past.final_is ∙ (sym (b.layers p in-book).chunks ∙ sym count)
 
           within : (n : List ℕ) → AtForget p.0 chunks n → IsPartName w n
           within n at = part-at p.0 chunks w (objects-name ends r) counted n at
@@ -233,8 +241,25 @@ module _ (c : ClusterState) (source : Src) (collection : List ℕ) (start end : 
           moments : LeavesOnly first now (StandsUntil (Some to))
           moments = stands-throughout older_manifest (setting_of to) (settings-proper to) w is-started (AtForget p.0 chunks) within (inl is-started) first now (ready_images (Some (machine_of c tables)) (Some to) first ready) (kept w (older_manifest w) may-forget)
 
+          -- only names of the layer are removed, and the other layers keep their manifests
+          removes : (left : Machine) → ChangesOnly NoName (AtForget p.0 chunks) first now → ChangesOnly (MayPut left to first.objects) (IsOwnName to.name) first now
+          removes left changes = only_less (λ n no. absurd no) (λ n at. part-own (setting_of to) (settings-proper to) w is-started n (within n at)) changes
+
+          is-ahead : (left : Machine) → left.jobs ≡ c.jobs → ChangesOnly NoName (AtForget p.0 chunks) first now → AreAhead left to first.objects now.objects
+          is-ahead left same changes =
+              let i = place-of tables b in
+              let a = own-past.number in
+              let e = (own tables b).number in
+              let jobs : length left.jobs ≡ length c.jobs = ap (λ (x : List Job). length x) same in
+              ahead-by-one (setting_of to) (settings-proper to) w is-started NoName (AtForget p.0 chunks) (λ n no. absurd no) within first now ready.known.tells changes
+              (length left.jobs) (let lt = i.2 in omega (arith, a, e, jobs, lt))
+
+          manifests : ChangesOnly NoName (AtForget p.0 chunks) first now → (first.tells ≡ true → StaysOver p.0 first.objects now.objects) → KeepManifests (made_layers to) first.objects now.objects
+          manifests changes stays = manifests-by-one (setting_of to) (settings-proper to) w is-started NoName (AtForget p.0 chunks) (λ n no. absurd no) within first now ready.known.tells changes
+              (λ is_open. inr (may-forget.is_open, subst (λ (n : LayerName). StaysOver n first.objects now.objects) (sym (objects-name ends r)) (stays ready.known.tells) is_open))
+
           -- a backup of its number is that of the layer
-          one-record : (place : ℕ) (q : recorded.Layer) → slice_get c.jobs place ≡ Some (Backup q) → q.job ≡ r.job → q ≡ r
+          one-record : (place : ℕ) (q : recorded.LayerRecord) → slice_get c.jobs place ≡ Some (Backup q) → q.job ≡ r.job → q ≡ r
           one-record place q got same =
               let i = place-of tables b in
               let m = (b.backups place q got).number in
@@ -243,28 +268,28 @@ module _ (c : ClusterState) (source : Src) (collection : List ℕ) (start end : 
               same-record q r (sym got ∙ (ap (slice_get c.jobs) at ∙ i.1))
 
           module _ (changes : ChangesOnly NoName (AtForget p.0 chunks) first now) (gone : IsForgotten p.0 chunks now.objects) where
-            as-before : (place : ℕ) (q : recorded.Layer) → slice_get c.jobs place ≡ Some (Backup q) → q.job ≢ r.job → IsSameOf (objects_of ends q) first.objects now.objects
+            as-before : (place : ℕ) (q : recorded.LayerRecord) → slice_get c.jobs place ≡ Some (Backup q) → q.job ≢ r.job → IsSameOf (objects_of ends q) first.objects now.objects
             as-before place q got other =
                 same-backups tables ends q w first now NoName (AtForget p.0 chunks) (past-of place q got) (λ n no. absurd no) within changes ready.known.tells own-past.few own-past.named (λ e. other (e ∙ own-past.number))
 
-            there : (q : recorded.Layer) → Has q (forgetting (machine_of c tables) r).layers → IsThere (objects_of ends q) now.objects
+            there : (q : recorded.LayerRecord) → Has q (forgetting (machine_of c tables) r).layers → IsThere (objects_of ends q) now.objects
             there q has =
-                let others = λ (x : recorded.Layer). not (same_name (name_of x) (name_of r)) in
+                let others = λ (x : recorded.LayerRecord). not (same_name (name_of_record x) (name_of_record r)) in
                 let old = filter-has others q (map record_of c.book.layers) has in
                 let i = own-place c tables b q old in
-                let passes : not (same_name (name_of q) (name_of r)) ≡ true = filter-passes others q (map record_of c.book.layers) has in
-                let other : q.job ≢ r.job = λ same. true≢false (sym passes ∙ (ap (λ (x : recorded.Layer). not (same_name (name_of x) (name_of r))) (one-record i.0 q i.1 same) ∙ ap not (same-itself (name_of r)))) in
+                let passes : not (same_name (name_of_record q) (name_of_record r)) ≡ true = filter-passes others q (map record_of c.book.layers) has in
+                let other : q.job ≢ r.job = λ same. true≢false (sym passes ∙ (ap (λ (x : recorded.LayerRecord). not (same_name (name_of_record x) (name_of_record r))) (one-record i.0 q i.1 same) ∙ ap not (same-itself (name_of_record r)))) in
                 still-there (objects_of ends q) first.objects now.objects (as-before i.0 q i.1 other) (ready.kept.there q old)
 
-            is-gone : (q : recorded.Layer) → Has (Backup q) c.jobs → Has q (forgetting (machine_of c tables) r).layers ⊎ IsGone (objects_of ends q) now.objects
+            is-gone : (q : recorded.LayerRecord) → Has (Backup q) c.jobs → Has q (forgetting (machine_of c tables) r).layers ⊎ IsGone (objects_of ends q) now.objects
             is-gone q has =
                 let i = has-place (Backup q) c.jobs has in
                 elim (cases_Bool (q.job == r.job)) [
                   | inl e ↦ (let same : q.job ≡ r.job = grind (arith, nat_tests, e) in
-                      inr (subst (λ (x : recorded.Layer). IsGone (objects_of ends x) now.objects) (sym (one-record i.0 q i.1 same)) (all-gone p.0 chunks w now.objects (objects-name ends r) counted gone)))
+                      inr (subst (λ (x : recorded.LayerRecord). IsGone (objects_of ends x) now.objects) (sym (one-record i.0 q i.1 same)) (all-gone p.0 chunks w now.objects (objects-name ends r) counted gone)))
                   | inr e ↦ (let other : q.job ≢ r.job = grind (arith, nat_tests, e) in
                       ⊎_elim
-                      (λ (old : Has q (map record_of c.book.layers)). inl (has-filter (λ x. not (same_name (name_of x) (name_of r))) q (map record_of c.book.layers) old (other-job (name_of q) (name_of r) other)))
+                      (λ (old : Has q (map record_of c.book.layers)). inl (has-filter (λ x. not (same_name (name_of_record x) (name_of_record r))) q (map record_of c.book.layers) old (other-job (name_of_record q) (name_of_record r) other)))
                       (λ (was : IsGone (objects_of ends q) first.objects). inr (still-gone (objects_of ends q) first.objects now.objects (as-before i.0 q i.1 other) was))
                       (ready.kept.gone q has))
                 ]
@@ -281,6 +306,16 @@ module _ (c : ClusterState) (source : Src) (collection : List ℕ) (start end : 
         leaves-of : (m to : Machine) → MayStep c m (means m) to first → LeavesOnly first now (StandsUntil (Some to))
         leaves-of m to may = let s = may.stands in moments s.tables s.keeps s.backups to (ready-over may) (later-of m to may)
 
+        module _ (changes : ChangesOnly NoName (AtForget p.0 chunks) first now) (stays : first.tells ≡ true → StaysOver p.0 first.objects now.objects) where
+          removes-of : (m to : Machine) → MayStep c m (means m) to first → ChangesOnly (MayPut (means m).machine to first.objects) (IsOwnName to.name) first now
+          removes-of m to may = let s = may.stands in removes s.tables s.keeps s.backups to (ready-over may) (later-of m to may) (means m).machine changes
+
+          ahead-of : (m to : Machine) → MayStep c m (means m) to first → AreAhead (means m).machine to first.objects now.objects
+          ahead-of m to may = let s = may.stands in is-ahead s.tables s.keeps s.backups to (ready-over may) (later-of m to may) (means m).machine (ap (λ (x : Stepped). x.machine.jobs) (is-found m to may)) changes
+
+          manifests-of : (m to : Machine) → MayStep c m (means m) to first → KeepManifests (made_layers to) first.objects now.objects
+          manifests-of m to may = let s = may.stands in manifests s.tables s.keeps s.backups to (ready-over may) (later-of m to may) changes stays
+
         -- a layer that is forgotten is none of the script's end
         not-done : (m to : Machine) (may : MayStep c m (means m) to first) → IsDone to first.objects → ⊥
         not-done m to may done =
@@ -288,25 +323,25 @@ module _ (c : ClusterState) (source : Src) (collection : List ℕ) (start end : 
             let ready = ready-over may in
             let later = later-of m to may in
             let kept = (done (w s.tables s.keeps s.backups to ready later) (is-started s.tables s.keeps s.backups to ready later)).1 in
-            let same : name_of kept.0 ≡ name_of r = kept.2 ∙ objects-name to.history.tables r in
+            let same : name_of_record kept.0 ≡ name_of_record r = kept.2 ∙ objects-name to.history.tables r in
             let i = place-of s.tables s.backups in
             let number = (own s.tables s.backups).number in
             ⊎_elim
-            (λ has. true≢false (sym (filter-passes (λ x. not (same_name (name_of x) (name_of r))) kept.0 (map record_of c.book.layers) has) ∙ (ap (λ (n : LayerName). not (same_name n (name_of r))) same ∙ ap not (same-itself (name_of r)))))
+            (λ has. true≢false (sym (filter-passes (λ x. not (same_name (name_of_record x) (name_of_record r))) kept.0 (map record_of c.book.layers) has) ∙ (ap (λ (n : LayerName). not (same_name n (name_of_record r))) same ∙ ap not (same-itself (name_of_record r)))))
             (λ after. (let at = ap (λ (n : LayerName). n.job) same in let lt = i.2 in omega (arith, after, at, number, lt)))
             (later.layers kept.0 kept.1)
 
         -- the disk failed, or memory was wanting
-        pub fault-runs : (fault : DirFault) → IsDiskFault fault → (m to : Machine) → MayStep c m (means m) to first → Runs c (means m) to (Err (halt_of_dir fault)) first now
-        fault-runs dir.Failed ok m to may = record { responds = tt; ready = tt; leaves = leaves-of m to may; idle = λ done. absurd (not-done m to may done) }
-        fault-runs dir.Memory ok m to may = record { responds = tt; ready = tt; leaves = leaves-of m to may; idle = λ done. absurd (not-done m to may done) }
-        fault-runs (dir.Damaged object wanted found) never m to may = absurd never
-        fault-runs (dir.Malformed object offset) never m to may = absurd never
-        fault-runs (dir.LayerDiffers object wanted found) never m to may = absurd never
+        pub fault-runs : ChangesOnly NoName (AtForget p.0 chunks) first now → (first.tells ≡ true → StaysOver p.0 first.objects now.objects) → (fault : DirFault) → IsDiskFault fault → (m to : Machine) → MayStep c m (means m) to first → Runs c (means m) to (Err (halt_of_dir fault)) first now
+        fault-runs changes stays dir.Failed ok m to may = record { responds = tt; ready = tt; leaves = leaves-of m to may; changes = removes-of changes stays m to may; ahead = ahead-of changes stays m to may; manifests = manifests-of changes stays m to may; idle = λ done. absurd (not-done m to may done) }
+        fault-runs changes stays dir.Memory ok m to may = record { responds = tt; ready = tt; leaves = leaves-of m to may; changes = removes-of changes stays m to may; ahead = ahead-of changes stays m to may; manifests = manifests-of changes stays m to may; idle = λ done. absurd (not-done m to may done) }
+        fault-runs changes stays (dir.Damaged object wanted found) never m to may = absurd never
+        fault-runs changes stays (dir.Malformed object offset) never m to may = absurd never
+        fault-runs changes stays (dir.LayerDiffers object wanted found) never m to may = absurd never
 
-        pub done-runs : ChangesOnly NoName (AtForget p.0 chunks) first now → (first.tells ≡ true → IsForgotten p.0 chunks now.objects) → (first.tells ≡ true → IsSettled now)
+        pub done-runs : ChangesOnly NoName (AtForget p.0 chunks) first now → (first.tells ≡ true → StaysOver p.0 first.objects now.objects) → (first.tells ≡ true → IsForgotten p.0 chunks now.objects) → (first.tells ≡ true → IsSettled now)
             → ((t : ℕ) (image : Objects) → IsKnown now → t ≤ now.moment → IsImage now image → now.left_since t image) → (new : ClusterState) → new ≡ without → (m to : Machine) → MayStep c m (means m) to first → Runs new (means m) to (Ok Plain) first now
-        done-runs changes gone settled counts new is-new m to may =
+        done-runs changes over gone settled counts new is-new m to may =
             let s = may.stands in
             let is = is-found m to may in
             let leaves = leaves-of m to may in
@@ -319,5 +354,8 @@ module _ (c : ClusterState) (source : Src) (collection : List ℕ) (start end : 
               );
               ready = subst (λ (y : Stepped). IsReady (Some y.machine) (Some to) now) (sym is) (done-ready s.tables s.keeps s.backups to (ready-over may) (later-of m to may) changes (gone tells) (settled tells) stands);
               leaves = leaves;
+              changes = removes-of changes over m to may;
+              ahead = ahead-of changes over m to may;
+              manifests = manifests-of changes over m to may;
               idle = λ done. absurd (not-done m to may done);
             }

@@ -4,9 +4,11 @@ use Rattle.mvcc_keys.specs.Times.{time_le}
 use Rattle.list_laws.specs.Members.{Has}
 use Rattle.mvcc_keys.proofs.TimeOrder.{le-refl, le-trans}
 use Rattle.history_model.specs.Histories.{Table}
-use Rattle.history_model.specs.Layers.{Layer}
+use Rattle.history_model.specs.Layers.{LayerRecord}
 use Rattle.outside_world.specs.Disk.{View, IsImage, IsKnown}
 use Rattle.outside_world.specs.Objects.{Objects}
+use Rattle.outside_world.proofs.Runs.{only_none}
+use Rattle.collection_dir.proofs.StandsLaws.{manifests-same}
 use Rattle.layer_manifest.specs.declared.manifest.Manifest.{Manifest}
 use Rattle.layer_model.specs.declared.names.LayerName.{LayerName}
 use Rattle.layer_model.specs.Layers as stored
@@ -16,7 +18,7 @@ use Rattle.layer_objects.specs.Past.{KeepsPast}
 use Rattle.reply_texts.specs.declared.answers.Answer.{Answer}
 use Rattle.machine_model.specs.Machine.{Backup, Job, Machine, Stepped, refused}
 use Rattle.machine_model.specs.Past.{IsLater}
-use Rattle.machine_model.specs.Disks.{IsGone, IsReady}
+use Rattle.machine_model.specs.Disks.{IsGone, IsReady, made_layers}
 use Rattle.machine_model.proofs.DiskLaws.{ready_leaves}
 use Rattle.cluster_core.specs.declared.halts.Halt.{Halt}
 use Rattle.cluster_core.specs.declared.halts.Halt.TheVariants.{Refused, Disk, Memory}
@@ -37,10 +39,10 @@ kept-backups old new tables later k b past le name jobs book = record {
   backups = λ place r got. (let o = b.backups place r (subst (λ (js : List Job). slice_get js place ≡ Some (Backup r)) jobs got) in let is = same r o in
       record { number = o.number; cluster = o.cluster ∙ sym name; full = o.full; over = le-trans r.end old.clock new.clock o.over le; few = subst stored.IsLayer (sym is) o.few });
   layers = λ p has. (let o = b.layers p (subst (λ (x : Book). Has p x.layers) book has) in let is = booked p o in
-      record { among = subst (Has (Backup (record_of p))) (sym jobs) o.among; manifest = o.manifest ∙ ap (λ (w : stored.Layer). w.manifest) (sym is); chunks = o.chunks ∙ ap (λ (w : stored.Layer). length w.chunks) (sym is); proper = o.proper });
+      record { among = subst (Has (Backup (record_of p))) (sym jobs) o.among; manifest = o.manifest ∙ ap (λ (w : stored.LayerObjects). w.manifest) (sym is); chunks = o.chunks ∙ ap (λ (w : stored.LayerObjects). length w.chunks) (sym is); proper = o.proper });
 }
   where
-    same : {place : ℕ} (r : Layer) → IsOwnBackup old tables place r → objects_of later r ≡ objects_of tables r
+    same : {place : ℕ} (r : LayerRecord) → IsOwnBackup old tables place r → objects_of later r ≡ objects_of tables r
     same r o = final old tables later old.clock r k past o.full o.over
 
     booked : (p : LayerName × Manifest) → IsBooked old.jobs tables p → objects_of later (record_of p) ≡ objects_of tables (record_of p)
@@ -80,7 +82,7 @@ module _ (old new : ClusterState) (meaning : Machine → Stepped) (later : (m : 
         stands = ready.stands;
         kept = record {
           there = λ r has. ready.kept.there r (subst (Has r) layers has);
-          gone = λ r has. subst (λ (ls : List Layer). Has r ls ⊎ IsGone (objects_of to.history.tables r) v.objects) (sym layers) (ready.kept.gone r (subst (Has (Backup r)) jobs has));
+          gone = λ r has. subst (λ (ls : List LayerRecord). Has r ls ⊎ IsGone (objects_of to.history.tables r) v.objects) (sym layers) (ready.kept.gone r (subst (Has (Backup r)) jobs has));
         };
       }
 
@@ -93,6 +95,9 @@ module _ (old new : ClusterState) (meaning : Machine → Stepped) (later : (m : 
         responds = (t, sym (done.response_is ∙ ap (λ (x : Machine). (meaning x).response) (sym s.machine_is)));
         ready = ready-then m to v s t may.ready;
         leaves = ready_leaves (Some m) (Some to) v only may.ready;
+        changes = only_none v;
+        ahead = λ w among later n is. refl;
+        manifests = manifests-same (made_layers to) v.objects v.objects refl;
         idle = λ done. idle-none v;
       }
   here-runs (Err (Refused refusal)) does v only m to may =
@@ -100,7 +105,7 @@ module _ (old new : ClusterState) (meaning : Machine → Stepped) (later : (m : 
       let is : meaning m ≡ refused m refusal = subst (λ (x : Machine). meaning x ≡ refused x refusal) (sym s.machine_is) (does.1 s.tables s.keeps) in
       subst (λ (c : ClusterState). Runs c (meaning m) to (Err (Refused refusal)) v v) (sym does.0) (halted-runs old m (meaning m) to v (Refused refusal) (Some refusal) refl (λ other e. is ∙ same-refused m refusal other e) only s may.ready)
   here-runs (Err Disk) does v only m to may = absurd does
-  here-runs (Err Memory) does v only m to may = record { responds = tt; ready = tt; leaves = ready_leaves (Some m) (Some to) v only may.ready; idle = λ done. idle-none v }
+  here-runs (Err Memory) does v only m to may = record { responds = tt; ready = tt; leaves = ready_leaves (Some m) (Some to) v only may.ready; changes = only_none v; ahead = λ w among later n is. refl; manifests = manifests-same (made_layers to) v.objects v.objects refl; idle = λ done. idle-none v }
 
   pub here-still : (r : Result Answer Halt) → Does old new meaning r → (m : Machine) × StandsFor old m → StandsStill r new
   here-still (Ok answer) does x = ((meaning x.0).machine, stands-then x.0 x.1 (does x.1.tables x.1.keeps).stands)

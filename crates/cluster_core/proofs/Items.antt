@@ -38,7 +38,7 @@ use Rattle.fact_model.proofs.Scanned.{items-has}
 use Rattle.range_tombstones.specs.declared.upto.Upto.TheVariants.{At}
 use Rattle.span_export.specs.declared.plan.Plan.TheVariants.{Whole}
 use Rattle.history_model.specs.Histories.{Table}
-use Rattle.history_model.specs.Layers.{Layer}
+use Rattle.history_model.specs.Layers.{LayerRecord}
 use Rattle.layer_objects.specs.Objects.{by_id, rows_of, table_facts}
 use Rattle.layer_rows.proofs.Exported.{scans-stored}
 use Rattle.layer_rows.proofs.Stored.{plan-ordered}
@@ -215,7 +215,7 @@ module _ (id : ℕ) (kinds : List Kind) where
 
 -- ---- chosen tables
 
-module _ (tables : List Table) (r : Layer) (storable : AreStorable tables) (database : List ℕ) (t : Time) (d : Schema) (chosen : Has d (chosen_tables tables database t r)) (small : d.id < 2 ^ 32) where
+module _ (tables : List Table) (r : LayerRecord) (storable : AreStorable tables) (database : List ℕ) (t : Time) (d : Schema) (chosen : Has d (chosen_tables tables database t r)) (small : d.id < 2 ^ 32) where
   known : IsKnown tables r storable d
   known = chosen-known tables r storable database t d chosen
 

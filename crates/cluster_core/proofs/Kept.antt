@@ -30,7 +30,7 @@ use Rattle.machine_model.specs.TableRows.{extended, raised}
 use Rattle.cluster_core.specs.ClusterView.{ClusterState}
 use Rattle.layer_objects.specs.Objects.{table_kinds, kinds_of, table_facts, table_threshold, rows_of, by_id}
 use Rattle.cluster_core.specs.Standing.{IsOwn, IsOrderly, Keeps, StandsFor}
-use Rattle.cluster_core.proofs.Lists.{got-set, got-set_other, map-set, set-same, got-push, find-has}
+use Rattle.machine_model.proofs.Lists.{got-set, got-set_other, map-set, set-same, got-push, find-has}
 use Rattle.cluster_core.proofs.Tables.{by_id-at, rows-same, rows-more, rows-raised, rows-new}
 use Rattle.list_laws.proofs.Options.{some-is}
 
@@ -43,14 +43,6 @@ pub in_force-has : (ds : List Schema) (t : Time) (d : Schema) → in_force ds t 
 in_force-has ds t d e = reverse-has ds d (find-has (λ (x : Schema). time_le x.modified t) (reverse ds) d e)
 
 -- ---- time that passes
-
-pub next-later : (s t : Time) → next s ≡ Some t → time_lt s t ≡ true
-next-later s t e = by (nat_lt s.logical 2147483647) refl
-  where
-    by : (b : Bool) → nat_lt s.logical 2147483647 ≡ b → time_lt s t ≡ true
-    by true l = let is : Some (record { wall = s.wall; logical = s.logical + 1 }) ≡ Some t = rw l at e in
-        (let same : record { wall = s.wall; logical = s.logical + 1 } ≡ t = cc is in subst (λ (x : Time). time_lt s x ≡ true) same (grind (arith, nat_tests)))
-    by false l = let is : None ≡ Some t = rw l at e in cc is
 
 later : (s t : Time) (id : ℕ) (table : Table) → time_le s t ≡ true → IsOrderly s id table → IsOrderly t id table
 later s t id table le o = record {

@@ -1,4 +1,3 @@
-pub mod Lists
 pub mod Tables
 pub mod Kept
 pub mod Looking
@@ -8,9 +7,9 @@ pub mod Adding
 pub mod SchemaCommands
 pub mod Reading
 pub mod Versions
-pub mod Past
 pub mod Sizes
 pub mod Names
+pub mod FullLayers
 pub mod Backing
 pub mod Others
 pub mod Storing

@@ -17,14 +17,14 @@ use Rattle.reply_texts.specs.declared.refusals.Refusal.{Refusal}
 use Rattle.reply_texts.specs.declared.refusals.Refusal.TheVariants.{NoSuchTable, Collected, Future, TickBack}
 use Rattle.reply_texts.specs.declared.answers.Answer.TheVariants.{RowsShown, ThresholdRaised, ClockSet}
 use Rattle.reply_texts.specs.declared.replies.Response.{Response}
-use Rattle.machine_model.specs.Machine.{answered, judged, offline_refusal, refusal_if, with_table}
+use Rattle.machine_model.specs.Machine.{answered, judged, offline_refusal, refusal_if, for_table}
 use Rattle.machine_model.specs.Tables.{tick}
 use Rattle.machine_model.specs.TableRows.{select, select_at, collect, future_refusal, collected_refusal, rows_at, raised, with_threshold as with_raised}
 use Rattle.cluster_core.specs.ClusterView.{ClusterState}
 use Rattle.cluster_core.specs.Finding.{found_in}
 use Rattle.layer_objects.specs.Objects.{rows_of, table_kinds, table_facts, table_threshold, by_id}
 use Rattle.cluster_core.specs.Standing.{Keeps, machine_of, IsStepped, Refuses, Does}
-use Rattle.cluster_core.proofs.Lists.{got-set}
+use Rattle.machine_model.proofs.Lists.{got-set}
 use Rattle.cluster_core.proofs.Tables.{by_id-at}
 use Rattle.mvcc_keys.proofs.TimeOrder.{lt-le}
 use Rattle.cluster_core.proofs.Kept.{in_force-has, restored, keeps-as, keeps-raised}
@@ -56,7 +56,7 @@ module _ (name : List ℕ × List ℕ) (at : Option Time) (t : Time) where
   means c tables is = ap (select_at (machine_of c tables) name) (sym is)
 
   past : (c : ClusterState) (tables : List Table) → t ≡ unwrap_or at c.clock → refusal_if (time_lt c.clock t) (Future c.clock) ≡ None
-      → select (machine_of c tables) name at ≡ with_table (machine_of c tables) name t (λ f. judged (machine_of c tables) (offline_refusal name f.schema ∷ collected_refusal f.table t ∷ []) (answered (machine_of c tables) (RowsShown (rows_at f t))))
+      → select (machine_of c tables) name at ≡ for_table (machine_of c tables) name t (λ f. judged (machine_of c tables) (offline_refusal name f.schema ∷ collected_refusal f.table t ∷ []) (answered (machine_of c tables) (RowsShown (rows_at f t))))
   past c tables is e = means c tables is ∙ passes (machine_of c tables) (future_refusal (machine_of c tables) t) [] _ e
 
   pub select-missing : (c : ClusterState) → t ≡ unwrap_or at c.clock → refusal_if (time_lt c.clock t) (Future c.clock) ≡ None → found_in c.schemas name t ≡ None → Refuses c (λ m. select m name at) (NoSuchTable name)

@@ -15,12 +15,13 @@ use Rattle.table_descriptors.specs.Descriptors.{IsProperSchema, Schema}
 use Rattle.list_laws.specs.Members.{Has}
 use Rattle.list_laws.proofs.Members.{has-append_cases, has-map}
 use Rattle.history_model.specs.Histories.{Table}
-use Rattle.history_model.specs.Layers.{Layer}
+use Rattle.history_model.specs.Layers.{LayerRecord}
 use Rattle.schema_catalog.specs.Catalogs.{Schemas, history_of, next_id}
 use Rattle.outside_world.specs.Disk.{View, IsImage, IsKnown, OnlyReads}
 use Rattle.outside_world.specs.Moments.{LeavesOnly}
-use Rattle.outside_world.specs.Objects.{Objects}
-use Rattle.outside_world.proofs.Runs.{Run, run_read, started, still_known}
+use Rattle.outside_world.specs.Objects.{Objects, at}
+use Rattle.outside_world.proofs.Runs.{Run, only_read, run_read, started, still_known}
+use Rattle.collection_dir.proofs.StandsLaws.{manifests-same}
 use Rattle.layer_manifest.specs.declared.manifest.Manifest.{Manifest}
 use Rattle.layer_model.specs.declared.names.LayerName.{LayerName}
 use Rattle.layer_model.specs.Layers as stored
@@ -32,7 +33,7 @@ use Rattle.reply_texts.specs.declared.refusals.Refusal.{Refusal}
 use Rattle.reply_texts.specs.declared.refusals.Refusal.TheVariants.{NothingToRestore, TooManyEvents}
 use Rattle.machine_model.specs.Machine.{Backup, Machine, Restore, Stepped, answered, catalog_of, first_refusal, refusal_if, refused, unless_refused, with_found}
 use Rattle.machine_model.specs.Past.{IsLater}
-use Rattle.machine_model.specs.Disks.{IsGone, IsReady, IsThere, StandsUntil}
+use Rattle.machine_model.specs.Disks.{IsGone, IsReady, IsThere, StandsUntil, made_layers}
 use Rattle.machine_model.specs.Restores.{chosen_tables, count_to_restore, last_of, nothing_refusal, refusal_of_remap, restore_chain, restore_chosen, restore_done, restored_as, restored_table, rows_to_restore, span_of, with_restored}
 use Rattle.machine_model.specs.TableRows.{room_refusal}
 use Rattle.machine_model.proofs.DiskLaws.{ready_images}
@@ -52,9 +53,8 @@ use Rattle.cluster_core.proofs.Restorings.{count-is}
 use Rattle.cluster_core.specs.Restores.{AreTested, EndsBy, IsPlanned, refusal_of_chosen, restored_by, with_restore, room_test, shown_tables}
 use Rattle.cluster_core.proofs.Covers.{booked-full}
 use Rattle.cluster_core.proofs.Others.{final}
-use Rattle.cluster_core.proofs.Past.{chosen-later, finding-later, later-then}
+use Rattle.machine_model.proofs.Past.{chosen-later, finding-later, later-then, next-later}
 use Rattle.cluster_core.proofs.Rereading.{chosen-fresh, items-stored, over, rows-fresh, shown-chosen, standing, unraised}
-use Rattle.cluster_core.proofs.Kept.{next-later}
 
 -- ---- a disk that is only read
 
@@ -96,7 +96,7 @@ restored-fresh tables ids to t made published (d ∷ ds) =
 
 -- ---- jobs
 
-no-backup : (q : Layer) → Has (Backup q) (Restore ∷ []) → ⊥
+no-backup : (q : LayerRecord) → Has (Backup q) (Restore ∷ []) → ⊥
 no-backup q (inl e) = cc e
 no-backup q (inr none) = none
 
@@ -107,7 +107,7 @@ restored-ready m after to v layers jobs ready = record {
   stands = ready.stands;
   kept = record {
     there = λ q has. ready.kept.there q (subst (Has q) layers has);
-    gone = λ q has. subst (λ (ls : List Layer). Has q ls ⊎ IsGone (objects_of to.history.tables q) v.objects) (sym layers)
+    gone = λ q has. subst (λ (ls : List LayerRecord). Has q ls ⊎ IsGone (objects_of to.history.tables q) v.objects) (sym layers)
         (ready.kept.gone q (⊎_elim (λ old. old) (λ last. absurd (no-backup q last)) (has-append_cases (Backup q) m.jobs (Restore ∷ []) (subst (Has (Backup q)) jobs has))));
   };
 }
@@ -118,7 +118,7 @@ module _ (c : ClusterState) (database new : List ℕ) (x : Chain) (layer : Layer
   abbrev means : Machine → Stepped
   means m = restore_chain m database new x.time made published (map record_of x.layers.items)
 
-  abbrev r : Layer
+  abbrev r : LayerRecord
   r = record_of layer
 
   abbrev shown : List Schema
@@ -137,7 +137,7 @@ module _ (c : ClusterState) (database new : List ℕ) (x : Chain) (layer : Layer
   last-is = ap (λ (ls : List (LayerName × Manifest)). last_of (map record_of ls)) one.layers ∙ ap (λ (p : LayerName × Manifest). Some (record_of p)) layer-is
 
   means-is : (m : Machine) → means m ≡ restore_chosen m new x.time made published (map record_of x.layers.items) (chosen_tables m.history.tables database x.time r)
-  means-is m = ap (λ (o : Option Layer). with_found m NothingToRestore o (λ q. restore_chosen m new x.time made published (map record_of x.layers.items) (chosen_tables m.history.tables database x.time q))) last-is
+  means-is m = ap (λ (o : Option LayerRecord). with_found m NothingToRestore o (λ q. restore_chosen m new x.time made published (map record_of x.layers.items) (chosen_tables m.history.tables database x.time q))) last-is
 
   module _ (first-is : next c.clock ≡ Some made) (second-is : next made ≡ Some published) (proper : (id : ℕ) → 100 ≤ id → id < next_id c.schemas → AllByRecursion IsProperSchema (history_of c.schemas id)) (few : 100 + length c.schemas.tables ≤ 2 ^ 32) (events : c.events ≤ 1000000) where
     pub means-later : (tables : List Table) → IsLater (machine_of c tables) (means (machine_of c tables)).machine
@@ -193,7 +193,7 @@ module _ (c : ClusterState) (database new : List ℕ) (x : Chain) (layer : Layer
       pub stands-there : IsStanding (unraised s.tables) r layer.0 layer.1 first.objects
       stands-there =
           let is : objects_of to.history.tables r ≡ objects_of s.tables r = final c s.tables to.history.tables c.clock r s.keeps later.tables (booked-full c s.tables s.backups layer own) (over c s.tables s.keeps s.backups proper few events layer own) in
-          standing c s.tables s.keeps s.backups proper few events layer own first.objects (subst (λ (w : stored.Layer). IsThere w first.objects) is (ready.kept.there r (has-map record_of layer c.book.layers own)))
+          standing c s.tables s.keeps s.backups proper few events layer own first.objects (subst (λ (w : stored.LayerObjects). IsThere w first.objects) is (ready.kept.there r (has-map record_of layer c.book.layers own)))
 
       pub shown-is : shown ≡ chosen_tables (unraised s.tables) database r.end r
       shown-is = chosen-is s.tables s.keeps s.backups ∙ (ap (λ t. chosen_tables s.tables database t r) ends ∙ sym (chosen-fresh s.tables database r.end r))
@@ -206,10 +206,13 @@ module _ (c : ClusterState) (database new : List ℕ) (x : Chain) (layer : Layer
             responds = (subst (λ (y : Stepped). StandsFor c y.machine) (sym is) s, ap (λ (y : Stepped). y.response) is);
             ready = subst (λ (y : Stepped). IsReady (Some y.machine) (Some to) now) (sym is) (ready-read m to first now reads may.ready);
             leaves = leaves-read m to first now only reads may.ready;
+            changes = only_read reads;
+            ahead = λ w among later n is. ap (λ (o : Objects). at o n) (reads.content may.ready.known.tells).objects;
+            manifests = manifests-same (made_layers to) first.objects now.objects (reads.content may.ready.known.tells).objects;
             idle = λ done. idle-same first now (reads.content may.ready.known.tells);
           }
-      ended-runs only reads Disk by = record { responds = tt; ready = tt; leaves = leaves-read m to first now only reads may.ready; idle = λ done. idle-same first now (reads.content may.ready.known.tells) }
-      ended-runs only reads Memory by = record { responds = tt; ready = tt; leaves = leaves-read m to first now only reads may.ready; idle = λ done. idle-same first now (reads.content may.ready.known.tells) }
+      ended-runs only reads Disk by = record { responds = tt; ready = tt; leaves = leaves-read m to first now only reads may.ready; changes = only_read reads; ahead = λ w among later n is. ap (λ (o : Objects). at o n) (reads.content may.ready.known.tells).objects; manifests = manifests-same (made_layers to) first.objects now.objects (reads.content may.ready.known.tells).objects; idle = λ done. idle-same first now (reads.content may.ready.known.tells) }
+      ended-runs only reads Memory by = record { responds = tt; ready = tt; leaves = leaves-read m to first now only reads may.ready; changes = only_read reads; ahead = λ w among later n is. ap (λ (o : Objects). at o n) (reads.content may.ready.known.tells).objects; manifests = manifests-same (made_layers to) first.objects now.objects (reads.content may.ready.known.tells).objects; idle = λ done. idle-same first now (reads.content may.ready.known.tells) }
 
       module _ (p : Plan) (planned : IsPlanned c.schemas new made shown p) (vs : List (Vec Entry)) (tested : AreTested shown vs) (time : IsTime made) (read : map entries_in vs ≡ map (stored_rows (unraised s.tables) r.end) shown) (room : room_test c (count_rows (entries_of vs)) ≡ None) where
         count : count_rows (entries_of vs) ≡ count_to_restore (unraised s.tables) r.end shown
@@ -247,7 +250,7 @@ module _ (c : ClusterState) (database new : List ℕ) (x : Chain) (layer : Layer
         pub done-runs : (res : Result Answer Halt) (n : ClusterState) → KeptBy c n new made published p vs res → OnOk res (n ≡ with_restore c new published (count_rows (entries_of vs)) n.schemas.tables n.store)
             → (k : ℕ) → k ≡ count_rows (entries_of vs) → IfOk res (λ a. a ≡ restored_by c new p.ids x.time made k x.layers.items p.chosen.items) → IfErr res (λ e. e ≡ Memory)
             → (IsKnown first → (image : Objects) → first.left_since first.moment image → IsImage first image) → OnlyReads first now → Runs n (means m) to res first now
-        done-runs (Err e) n kept rest k k-is answer fault only reads = subst (λ (y : Halt). Runs n (means m) to (Err y) first now) (sym fault) (record { responds = tt; ready = tt; leaves = leaves-read m to first now only reads may.ready; idle = λ done. idle-same first now (reads.content may.ready.known.tells) })
+        done-runs (Err e) n kept rest k k-is answer fault only reads = subst (λ (y : Halt). Runs n (means m) to (Err y) first now) (sym fault) (record { responds = tt; ready = tt; leaves = leaves-read m to first now only reads may.ready; changes = only_read reads; ahead = λ w among later n is. ap (λ (o : Objects). at o n) (reads.content may.ready.known.tells).objects; manifests = manifests-same (made_layers to) first.objects now.objects (reads.content may.ready.known.tells).objects; idle = λ done. idle-same first now (reads.content may.ready.known.tells) })
         done-runs (Ok a) n kept rest k k-is answer fault only reads =
             let keeps = kept s.tables shown fresh-items s.keeps (by-ids c new made published first-is second-is shown p planned vs n) planned.in_order rows-are in
             let stands = kept-stands c new made published first-is second-is shown p planned vs n s.tables s.keeps s.backups fresh-items keeps (count_rows (entries_of vs)) rest in
@@ -263,5 +266,8 @@ module _ (c : ClusterState) (database new : List ℕ) (x : Chain) (layer : Layer
                   (ap (λ (y : Stepped). y.machine.jobs) is ∙ sym (ap (λ (y : Machine). y.jobs ++ Restore ∷ []) s.machine_is))
                   (ready-read m to first now reads may.ready);
               leaves = leaves-read m to first now only reads may.ready;
+              changes = only_read reads;
+              ahead = λ w among later n is. ap (λ (o : Objects). at o n) (reads.content may.ready.known.tells).objects;
+              manifests = manifests-same (made_layers to) first.objects now.objects (reads.content may.ready.known.tells).objects;
               idle = λ done. idle-same first now (reads.content may.ready.known.tells);
             }

@@ -30,9 +30,8 @@ use Rattle.cluster_core.specs.Standing.{HasBackups, Keeps, StandsFor, machine_of
 use Rattle.cluster_core.specs.Restoring.{AreRowsOfEach, HasRoomFor, IsFirst, count_rows, entries_of, made_tables}
 use Rattle.cluster_core.specs.Restores.{AreTested, IsPlanned, with_restore}
 use Rattle.cluster_core.proofs.Here.{kept-backups}
-use Rattle.cluster_core.proofs.Kept.{next-later}
-use Rattle.cluster_core.proofs.Lists.{got-push}
-use Rattle.cluster_core.proofs.Past.{changed-modified, past-more}
+use Rattle.machine_model.proofs.Past.{changed-modified, next-later, past-more}
+use Rattle.machine_model.proofs.Lists.{got-push}
 use Rattle.cluster_core.proofs.Restored.{all-first}
 use Rattle.cluster_core.proofs.Storing.{has-left}
 

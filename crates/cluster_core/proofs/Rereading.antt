@@ -17,7 +17,7 @@ use Rattle.list_laws.proofs.Members.{AllByRecursion-has, all-weaker, has-AllByRe
 use Rattle.fact_model.specs.Scans.{scan}
 use Rattle.history_model.specs.Rows.{RowFact, RowItem}
 use Rattle.history_model.specs.Histories.{Table, accepted, in_force, key_order, schemas_of}
-use Rattle.history_model.specs.Layers.{Layer}
+use Rattle.history_model.specs.Layers.{LayerRecord}
 use Rattle.schema_catalog.specs.Catalogs.{history_of, next_id}
 use Rattle.introduced_spans.specs.declared.plans.TablePlan.{TablePlan}
 use Rattle.introduced_spans.specs.PlanLaws.{ascend_after}
@@ -30,11 +30,13 @@ use Rattle.layer_manifest.specs.declared.manifest.TablePart.{TablePart}
 use Rattle.layer_model.specs.declared.names.LayerName.{LayerName}
 use Rattle.layer_model.specs.declared.names.Part.TheVariants.{Chunk}
 use Rattle.layer_model.specs.Layers as stored
-use Rattle.backup_job.specs.Contents.{part_of}
-use Rattle.layer_objects.specs.Objects.{by_id, described, objects_of, plan_of, table_facts, table_threshold}
+use Rattle.layer_objects.specs.Contents.{part_of}
+use Rattle.layer_objects.specs.Objects.{by_id, described, manifest_of, objects_of, plan_of, table_facts, table_threshold}
 use Rattle.layer_objects.specs.Past.{KeepsPast}
-use Rattle.layer_objects.specs.Storable.{AreStorable, IsFull, IsStorable, MayBeWritten, manifest_of}
-use Rattle.layer_objects.proofs.Writable.{layers-written, manifests-tell}
+use Rattle.layer_objects.specs.Storable.{AreStorable, IsStorable, MayBeWritten}
+use Rattle.cluster_core.specs.FullLayers.{IsFull}
+use Rattle.cluster_core.proofs.FullLayers.{full-record}
+use Rattle.layer_objects.proofs.Writable.{layers-written, manifests-tell, now-listed}
 use Rattle.layer_rows.specs.Putting.{IsItem}
 use Rattle.machine_model.specs.Machine.{Backup}
 use Rattle.machine_model.specs.Disks.{IsThere}
@@ -49,9 +51,9 @@ use Rattle.cluster_core.proofs.Backing.{storable}
 use Rattle.cluster_core.proofs.Choosing.{chosen-shown}
 use Rattle.cluster_core.proofs.Covers.{booked-full, has-place}
 use Rattle.cluster_core.proofs.Items.{chosen-rows, rows-read}
-use Rattle.cluster_core.proofs.Lists.{find-has}
+use Rattle.machine_model.proofs.Lists.{find-has}
 use Rattle.cluster_core.proofs.Others.{final}
-use Rattle.cluster_core.proofs.Past.{longer-same}
+use Rattle.machine_model.proofs.Past.{longer-same}
 
 -- ---- rows that are put anew
 
@@ -75,7 +77,7 @@ module _ (made : Time) (time : IsTime made) where
       (one.0 ∷ more.0, (stored-of d.id (key_kinds d) v.items one.0 tested.0.small one.1, more.1))
 
   -- what is stored of chosen tables comes from their rows
-  pub items-stored : (tables : List Table) (r : Layer) (s : AreStorable tables) (database : List ℕ) (t : Time) (ds : List Schema) (vs : List (Vec Entry)) → ((d : Schema) → Has d ds → Has d (chosen_tables tables database t r)) → AreTested ds vs
+  pub items-stored : (tables : List Table) (r : LayerRecord) (s : AreStorable tables) (database : List ℕ) (t : Time) (ds : List Schema) (vs : List (Vec Entry)) → ((d : Schema) → Has d ds → Has d (chosen_tables tables database t r)) → AreTested ds vs
       → map entries_in vs ≡ map (stored_rows tables t) ds → AreRowsOfEach made ds (entries_of vs) (map (rows_to_restore tables t) ds)
   items-stored tables r s database t [] [] all tested are = tt
   items-stored tables r s database t [] (v ∷ vs) all tested are = absurd tested
@@ -133,19 +135,11 @@ facts-fresh tables id = ap (λ (o : Option (List RowFact)). if nat_lt id 100 the
     by None = refl
     by (Some t) = refl
 
-never-raised : (tables : List Table) (id : ℕ) → by_id zero_time table_threshold (unraised tables) id ≡ zero_time
-never-raised tables id = by (nat_lt id 100) (slice_get tables (id - 100)) (slice_get-map fresh tables (id - 100))
-  where
-    by : (b : Bool) (o : Option Table) → slice_get (unraised tables) (id - 100) ≡ option_map fresh o → (if b then zero_time else unwrap_or (option_map table_threshold (slice_get (unraised tables) (id - 100))) zero_time) ≡ zero_time
-    by true o is = refl
-    by false None is = rw is refl
-    by false (Some t) is = rw is refl
-
 -- what a restore tells and puts doesn't depend on what was collected
 pub rows-fresh : (tables : List Table) (t : Time) (d : Schema) → rows_to_restore (unraised tables) t d ≡ rows_to_restore tables t d
 rows-fresh tables t d = ap (scan (key_order d) t) (facts-fresh tables d.id)
 
-pub chosen-fresh : (tables : List Table) (database : List ℕ) (t : Time) (r : Layer) → chosen_tables (unraised tables) database t r ≡ chosen_tables tables database t r
+pub chosen-fresh : (tables : List Table) (database : List ℕ) (t : Time) (r : LayerRecord) → chosen_tables (unraised tables) database t r ≡ chosen_tables tables database t r
 unfolding chosen_tables
 chosen-fresh tables database t r = rw (schemas-fresh tables) refl
 
@@ -153,7 +147,7 @@ chosen-fresh tables database t r = rw (schemas-fresh tables) refl
 
 module _ (c : ClusterState) (tables : List Table) (k : Keeps c tables) (b : HasBackups c tables) (proper : (id : ℕ) → 100 ≤ id → id < next_id c.schemas → AllByRecursion IsProperSchema (history_of c.schemas id)) (few : 100 + length c.schemas.tables ≤ 2 ^ 32)
     (events : c.events ≤ 1000000) (p : LayerName × Manifest) (own : Has p c.book.layers) where
-  abbrev r : Layer
+  abbrev r : LayerRecord
   r = record_of p
 
   full : IsFull r
@@ -195,17 +189,7 @@ module _ (c : ClusterState) (tables : List Table) (k : Keeps c tables) (b : HasB
       let count : length (unraised tables) ≡ length c.schemas.tables = length-map tables fresh ∙ (sym (length-map tables (λ (x : Table). x.descriptors)) ∙ ap length k.schemas) in
       let total = accepted-fresh tables in
       let kept = k.events in
-      layers-written (unraised tables) r (storable-fresh tables (storable c tables k)) (omega (arith, count, few)) (omega (arith, total, kept, events)) full (parts-proper (plan_of (unraised tables) r).tables) allowed
-    where
-      dated : AllByRecursion (λ ds. ascend_after zero_time ds ≡ true) (schemas_of (unraised tables))
-      dated = AllByRecursion-has (λ ds. ascend_after zero_time ds ≡ true) (schemas_of (unraised tables)) (λ ds has.
-          let t = map-has (λ (x : Table). x.descriptors) ds (unraised tables) has in
-          let place = has-place t.0 (unraised tables) t.1 in
-          subst (λ (xs : List Schema). ascend_after zero_time xs ≡ true) (sym t.2) (storable-fresh tables (storable c tables k) place.0 t.0 place.1).ascend)
-
-      allowed : plan_fault (schemas_of (unraised tables)) r.scope r.start r.end r.history (by_id zero_time table_threshold (unraised tables)) ≡ None
-      allowed = subst₂ (λ (s : Time) (h : Bool). plan_fault (schemas_of (unraised tables)) r.scope s r.end h (by_id zero_time table_threshold (unraised tables)) ≡ None) (sym full.start) (sym full.history)
-          ((full-is-whole (schemas_of (unraised tables)) r.scope r.end (by_id zero_time table_threshold (unraised tables)) dated).allowed (λ id. rw (never-raised tables id) (zero-le r.end)))
+      layers-written (unraised tables) r (storable-fresh tables (storable c tables k)) (omega (arith, count, few)) (omega (arith, total, kept, events)) (full-record r full) (now-listed (unraised tables) r full.history (parts-proper (plan_of (unraised tables) r).tables))
 
   pub over : time_le r.end c.clock ≡ true
   over = let place = has-place (Backup r) c.jobs (b.layers p own).among in (b.backups place.0 r place.1).over
@@ -214,7 +198,7 @@ module _ (c : ClusterState) (tables : List Table) (k : Keeps c tables) (b : HasB
   objects-fresh = final c tables (unraised tables) c.clock r k (past-fresh c.clock tables) full over
 
   told : p.1 ≡ manifest_of (unraised tables) r
-  told = let o = b.layers p own in (manifests-tell (unraised tables) r p.1 may o.proper (o.manifest ∙ ap (λ (w : stored.Layer). w.manifest) (sym objects-fresh))).0
+  told = let o = b.layers p own in (manifests-tell (unraised tables) r p.1 may o.proper (o.manifest ∙ ap (λ (w : stored.LayerObjects). w.manifest) (sym objects-fresh))).0
 
   pub shown-chosen : (database : List ℕ) → shown_tables database r.end p.1 ≡ chosen_tables (unraised tables) database r.end r
   shown-chosen database = ap (shown_tables database r.end) told ∙ chosen-shown (unraised tables) r database full
@@ -226,5 +210,5 @@ module _ (c : ClusterState) (tables : List Table) (k : Keeps c tables) (b : HasB
     full = full;
     may = may;
     storable = storable-fresh tables (storable c tables k);
-    chunks = λ i lt. ⊎_elim (λ whole. whole (Chunk i) lt) (λ whole. whole (Chunk i) lt) (subst (λ (w : stored.Layer). IsThere w objects) (sym objects-fresh) there);
+    chunks = λ i lt. ⊎_elim (λ whole. whole (Chunk i) lt) (λ whole. whole (Chunk i) lt) (subst (λ (w : stored.LayerObjects). IsThere w objects) (sym objects-fresh) there);
   }

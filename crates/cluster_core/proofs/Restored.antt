@@ -34,7 +34,8 @@ use Rattle.cluster_core.specs.ClusterView.{AreWithin, ClusterState}
 use Rattle.cluster_core.specs.Standing.{IsOwn, IsOrderly, Keeps}
 use Rattle.cluster_core.specs.Restoring.{AreRowsFor, AreRowsFrom, AreRowsOfEach, HasRoomFor, IsAdding, IsFirst, count_rows, made_table, made_tables, with_added}
 use Rattle.cluster_core.proofs.Tables.{by_id-at, rows-more, rows-new}
-use Rattle.cluster_core.proofs.Kept.{keeps-as, keeps-push, next-later}
+use Rattle.cluster_core.proofs.Kept.{keeps-as, keeps-push}
+use Rattle.machine_model.proofs.Past.{next-later}
 use Rattle.cluster_core.proofs.Adding.{map-dated}
 use Rattle.cluster_core.proofs.SchemaCommands.{next_version}
 use Rattle.cluster_core.proofs.Versions.{within-described}

@@ -22,7 +22,8 @@ use Rattle.cluster_core.specs.Finding.{found_in}
 use Rattle.cluster_core.specs.Standing.{Keeps, machine_of, IsStepped, Refuses}
 use Rattle.mvcc_keys.proofs.TimeOrder.{le-refl}
 use Rattle.cluster_core.proofs.KeyKinds.{kinds-kept}
-use Rattle.cluster_core.proofs.Kept.{next-later, in_force-has, redated, keeps-as, keeps-new, keeps-described}
+use Rattle.cluster_core.proofs.Kept.{in_force-has, redated, keeps-as, keeps-new, keeps-described}
+use Rattle.machine_model.proofs.Past.{next-later}
 use Rattle.cluster_core.proofs.Looking.{Sees, found_by, sees}
 use Rattle.cluster_core.proofs.Flow.{draws, missing, finds, passes, stops, does, catalog-is}
 

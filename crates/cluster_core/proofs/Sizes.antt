@@ -3,7 +3,10 @@ use Rattle.std.proofs.Common.{inl, inr, ◌≡◌, ℕ, ◌+◌, ◌≤◌, Bool
 use Rattle.std.proofs.lemmas.Bool.{cases_Bool}
 use Rattle.mvcc_keys.specs.Times.{Time, IsTime}
 use Rattle.row_codec.specs.declared.rows.Datum.{Datum}
+use Rattle.row_codec.specs.RowOrder.{row_cmp}
 use Rattle.row_codec.specs.RowValues.{row_value}
+use Rattle.std.specs.Prelude.{not}
+use Rattle.std.specs.Ordering.{is_lt}
 use Rattle.table_descriptors.specs.Descriptors.{Schema, key_kinds}
 use Rattle.fact_model.specs.Facts.{Del, DelRange}
 use Rattle.list_laws.specs.Members.{Has}
@@ -19,6 +22,16 @@ second : (a b c : Option RowsFault) → first_fault (a ∷ b ∷ c ∷ []) ≡ N
 second None None c e = refl
 second None (Some f) c e = cc e
 second (Some f) b c e = cc e
+
+third : (a b c : Option RowsFault) → first_fault (a ∷ b ∷ c ∷ []) ≡ None → c ≡ None
+third None None None e = refl
+third None None (Some f) e = cc e
+third None (Some f) c e = cc e
+third (Some f) b c e = cc e
+
+not-empty : (b : Bool) → (if not b then Some EmptyRange else None) ≡ None → b ≡ true
+not-empty true e = refl
+not-empty false e = cc e
 
 none-large : (o : Option ℕ) → large_fault o ≡ None → o ≡ None
 none-large None e = refl
@@ -72,4 +85,5 @@ unfolding range_fault
 range-sized d t lo hi time fine =
     let none = none-large (large_key d (lo ∷ hi ∷ [])) (second (wrong_fault (wrong_key d (lo ∷ hi ∷ []))) (large_fault (large_key d (lo ∷ hi ∷ []))) (if is_empty_range d lo hi then Some EmptyRange else None) fine) in
     let key = none-first (is_large_key (key_kinds d)) 1 (lo ∷ hi ∷ []) none in
-    each-made (IsSized (key_kinds d)) (λ (u : Unit {0}). DelRange lo hi t) (tt ∷ []) (tt ∷ []) (λ u has. (fits (key_kinds d) lo (key lo (inl refl)), fits (key_kinds d) hi (key hi (inr (inl refl))), time))
+    let up = not-empty (is_lt (row_cmp (key_kinds d) lo hi)) (third (wrong_fault (wrong_key d (lo ∷ hi ∷ []))) (large_fault (large_key d (lo ∷ hi ∷ []))) (if is_empty_range d lo hi then Some EmptyRange else None) fine) in
+    each-made (IsSized (key_kinds d)) (λ (u : Unit {0}). DelRange lo hi t) (tt ∷ []) (tt ∷ []) (λ u has. (fits (key_kinds d) lo (key lo (inl refl)), fits (key_kinds d) hi (key hi (inr (inl refl))), time, up))

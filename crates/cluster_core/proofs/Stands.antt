@@ -17,7 +17,7 @@ use Rattle.list_laws.proofs.Members.{all-weaker}
 use Rattle.fact_model.specs.Scans.{scan}
 use Rattle.history_model.specs.Rows.{RowFact}
 use Rattle.history_model.specs.Histories.{Table, schemas_of}
-use Rattle.history_model.specs.Layers.{Layer}
+use Rattle.history_model.specs.Layers.{LayerRecord}
 use Rattle.version_store.specs.Tables.{Tables}
 use Rattle.table_rows.specs.RowTables.{AreRowFacts, IsRowFact, bytes_of}
 use Rattle.row_codec.specs.RowOrder.{row_cmp}
@@ -39,15 +39,16 @@ use Rattle.layer_manifest.specs.Manifests.{chunk_count}
 use Rattle.layer_model.specs.declared.names.Part.TheVariants.{Chunk}
 use Rattle.layer_model.specs.Names.{object_name}
 use Rattle.layer_model.specs.Layers.{Holds}
-use Rattle.backup_job.specs.Contents.{chunk_size, cut, cut_times, in_a_row, info_of, part_of, pieces_of, with_each, with_pieces}
-use Rattle.backup_job.specs.Jobs.{entries_in as entries_of_plan}
-use Rattle.backup_job.proofs.Cutting.{size_pos}
-use Rattle.backup_job.proofs.Ordered.{pieces_chunks}
-use Rattle.backup_job.proofs.Remaining.{all_left}
-use Rattle.layer_objects.specs.Objects.{bare, by_id, described, name_of, objects_of, plan_of, rows_of, table_facts, table_kinds, table_threshold}
-use Rattle.layer_objects.specs.Storable.{AreStorable, IsFull, IsSized, MayBeWritten, manifest_of}
+use Rattle.layer_objects.specs.Contents.{chunk_size, cut, cut_times, in_a_row, info_of, part_of, pieces_of, with_each, with_pieces}
+use Rattle.layer_objects.specs.Contents.{entries_in as entries_of_plan}
+use Rattle.layer_objects.proofs.Cutting.{size_pos}
+use Rattle.layer_objects.proofs.Ordered.{pieces_chunks}
+use Rattle.layer_objects.specs.Objects.{by_id, described, manifest_of, name_of_record, objects_of, plan_of, rows_of, table_facts, table_kinds, table_threshold}
+use Rattle.layer_objects.specs.Storable.{AreStorable, IsSized, MayBeWritten}
+use Rattle.cluster_core.specs.FullLayers.{IsFull}
+use Rattle.cluster_core.proofs.FullLayers.{covers-full, manifest-full}
 use Rattle.layer_objects.proofs.Sizes.{cut-all}
-use Rattle.layer_objects.proofs.Writable.{covers-full, schemas-ascend}
+use Rattle.layer_objects.proofs.Writable.{schemas-ascend}
 use Rattle.layer_rows.specs.Putting.{stored_put}
 use Rattle.layer_rows.specs.Reading.{AreEntriesOf, AreStoredAt}
 use Rattle.layer_rows.proofs.Exported.{scans-stored}
@@ -56,7 +57,7 @@ use Rattle.machine_model.specs.Restores.{chosen_by, chosen_tables}
 use Rattle.cluster_core.specs.Chains.{AreTypedRows, IsStanding, entries_in, stored_rows}
 use Rattle.cluster_core.proofs.Ascending.{chosen-has}
 use Rattle.cluster_core.proofs.Covers.{find-passes}
-use Rattle.cluster_core.proofs.Lists.{got-has, got-left}
+use Rattle.machine_model.proofs.Lists.{got-has, got-left}
 use Rattle.cluster_core.proofs.Tables.{by_id-at}
 
 -- ---- lists
@@ -113,7 +114,7 @@ module _ (part : TablePlan → TablePart) (pieces : TablePlan → List (List Ent
 
 -- ---- chosen tables
 
-module _ (tables : List Table) (r : Layer) (storable : AreStorable tables) where
+module _ (tables : List Table) (r : LayerRecord) (storable : AreStorable tables) where
   -- the table of a descriptor
   pub record IsKnown (d : Schema) : Type 0 where
     pub kinds : by_id [] table_kinds tables d.id ≡ key_kinds d
@@ -147,7 +148,7 @@ module _ (tables : List Table) (r : Layer) (storable : AreStorable tables) where
 
 -- ---- plans
 
-module _ (tables : List Table) (r : Layer) (storable : AreStorable tables) (full : IsFull r) where
+module _ (tables : List Table) (r : LayerRecord) (storable : AreStorable tables) (full : IsFull r) where
   abbrev D : List (List Schema)
   D = schemas_of tables
 
@@ -168,7 +169,7 @@ module _ (tables : List Table) (r : Layer) (storable : AreStorable tables) (full
   plans-are = ap (λ (p : LayerPlan). p.tables) (ap (plan_over D r.scope) (covers-full r full) ∙ (full-is-whole D r.scope r.end (by_id zero_time table_threshold tables) (schemas-ascend tables storable)).plan)
 
   tables-are : (manifest_of tables r).tables ≡ parts part (pieces_of h) plans
-  tables-are = ap (with_each (bare tables r).tables) (sym (all_left h plans))
+  tables-are = ap (λ (m : Manifest). m.tables) (manifest-full tables r full)
 
   -- the part at a place is that of the whole table of its id
   part-whole : (place : ℕ) (t : TablePart) (id : ℕ) → slice_get (manifest_of tables r).tables place ≡ Some t → t.id ≡ id → (slice_get plans place ≡ Some (whole_at r.end id)) × (t ≡ with_pieces (part (whole_at r.end id)) (pieces_of h (whole_at r.end id)))
@@ -186,7 +187,7 @@ module _ (tables : List Table) (r : Layer) (storable : AreStorable tables) (full
 
   module _ (may : MayBeWritten tables r) (objects : Objects) (chunks : (i : ℕ) → i < length (objects_of tables r).chunks → Holds (objects_of tables r) (Chunk i) objects) where
     there-at : (place : ℕ) (plan : TablePlan) (i : ℕ) (piece : List Entry) → slice_get plans place ≡ Some plan → slice_get (pieces_of h plan) i ≡ Some piece
-        → at objects (object_name (name_of r) (Chunk (chunk_count (take place (manifest_of tables r).tables) + i))) ≡ Some (chunk_bytes piece)
+        → at objects (object_name (name_of_record r) (Chunk (chunk_count (take place (manifest_of tables r).tables) + i))) ≡ Some (chunk_bytes piece)
     unfolding objects_of
     there-at place plan i piece got is =
         let n = chunk_count (take place (manifest_of tables r).tables) + i in
@@ -195,7 +196,7 @@ module _ (tables : List Table) (r : Layer) (storable : AreStorable tables) (full
         chunks n (slice_get_within (map chunk_bytes (in_a_row (map (pieces_of h) plans))) n (chunk_bytes piece) bytes) ∙ bytes
 
     stored-whole : (place id : ℕ) (kinds : List Kind) → by_id [] table_kinds tables id ≡ kinds → slice_get plans place ≡ Some (whole_at r.end id)
-        → AreStoredAt (name_of r) (with_pieces (part (whole_at r.end id)) (pieces_of h (whole_at r.end id))) kinds (chunk_count (take place (manifest_of tables r).tables)) (pieces_of h (whole_at r.end id)) objects
+        → AreStoredAt (name_of_record r) (with_pieces (part (whole_at r.end id)) (pieces_of h (whole_at r.end id))) kinds (chunk_count (take place (manifest_of tables r).tables)) (pieces_of h (whole_at r.end id)) objects
     stored-whole place id kinds are got =
         let plan = whole_at r.end id in
         let typed = subst (λ ks. AllByRecursion (λ (e : Entry). (is_entry id ks e ≡ true) × IsStored e) (entries_of_plan h plan)) are (may.entries plan (got-has plans place plan got)) in record {
@@ -209,17 +210,17 @@ module _ (tables : List Table) (r : Layer) (storable : AreStorable tables) (full
 
     -- a chosen table is stored where the manifest tells, and what is stored are the puts of its rows
     pub chosen-stored : (database : List ℕ) (d : Schema) (place : ℕ) (t : TablePart) → Has d (chosen_tables tables database r.end r) → slice_get (manifest_of tables r).tables place ≡ Some t → t.id ≡ d.id → d.id < 2 ^ 32
-        → AreStoredAt (name_of r) t (key_kinds d) (chunk_count (take place (manifest_of tables r).tables)) (pieces_of h (whole_at r.end d.id)) objects × (joined (pieces_of h (whole_at r.end d.id)) ≡ stored_rows tables r.end d)
+        → AreStoredAt (name_of_record r) t (key_kinds d) (chunk_count (take place (manifest_of tables r).tables)) (pieces_of h (whole_at r.end d.id)) objects × (joined (pieces_of h (whole_at r.end d.id)) ≡ stored_rows tables r.end d)
     chosen-stored database d place t has got is small =
         let known = chosen-known tables r storable database r.end d has in
         let w = part-whole place t d.id got is in (
-          subst (λ x. AreStoredAt (name_of r) x (key_kinds d) (chunk_count (take place (manifest_of tables r).tables)) (pieces_of h (whole_at r.end d.id)) objects) (sym w.1) (stored-whole place d.id (key_kinds d) known.kinds w.0),
+          subst (λ x. AreStoredAt (name_of_record r) x (key_kinds d) (chunk_count (take place (manifest_of tables r).tables)) (pieces_of h (whole_at r.end d.id)) objects) (sym w.1) (stored-whole place d.id (key_kinds d) known.kinds w.0),
           joined-cut chunk_size size_pos (entries_of_plan h (whole_at r.end d.id))
               ∙ ((scans-stored (rows_of tables) d.id r.end small known.facts).0
               ∙ ap (λ ks. map (stored_put d.id ks) (scan (row_cmp ks) r.end (by_id [] table_facts tables d.id))) known.kinds),
         )
 
-pub standing-stored : (tables : List Table) (r : Layer) (layer : LayerName) (m : Manifest) (objects : Objects) → IsStanding tables r layer m objects
+pub standing-stored : (tables : List Table) (r : LayerRecord) (layer : LayerName) (m : Manifest) (objects : Objects) → IsStanding tables r layer m objects
     → (database : List ℕ) (d : Schema) (place : ℕ) (t : TablePart) → Has d (chosen_tables tables database r.end r) → slice_get m.tables place ≡ Some t → t.id ≡ d.id → d.id < 2 ^ 32
     → AreStoredAt layer t (key_kinds d) (chunk_count (take place m.tables)) (pieces_of (bytes_of (rows_of tables)) (whole_at r.end d.id)) objects × (joined (pieces_of (bytes_of (rows_of tables)) (whole_at r.end d.id)) ≡ stored_rows tables r.end d)
 standing-stored tables r layer m objects s database d place t has got is small =

@@ -1,5 +1,5 @@
 -- A full layer that is written over a ready disk: what the cluster and the disk are afterwards.
-use Rattle.std.proofs.Common.{◌≡◌, ◌≢◌, ◌⊎◌, inl, inr, ⊎_elim, ℕ, zero, suc, ◌<◌, ◌≤◌, true, false, List, [], ◌∷◌, ◌++◌, map, length, Some, slice_get, refl, sym, ap, subst, ◌∙◌, arith, Contains, Result}
+use Rattle.std.proofs.Common.{◌≡◌, ◌≢◌, ◌⊎◌, inl, inr, ⊎_elim, ℕ, zero, suc, ◌<◌, ◌≤◌, true, false, true≢false, List, [], ◌∷◌, ◌++◌, map, length, Some, slice_get, refl, sym, ap, subst, ◌∙◌, arith, Contains, Result}
 use Rattle.std.specs.Prelude.{IfErr}
 use Rattle.std.proofs.lemmas.List.{map-append}
 use Rattle.mvcc_keys.specs.Times.{Time, time_le}
@@ -10,7 +10,7 @@ use Rattle.mvcc_keys.proofs.TimeOrder.{le-refl, le-trans}
 use Rattle.history_model.specs.Histories.{Table}
 use Rattle.history_model.specs.Layers as recorded
 use Rattle.outside_world.specs.Disk.{View}
-use Rattle.outside_world.specs.Moments.{ChangesOnly, NoName}
+use Rattle.outside_world.specs.Moments.{ChangesOnly, IsSettled, NoName}
 use Rattle.outside_world.proofs.Runs.{as_read}
 use Rattle.version_store.specs.Tables.{Tables}
 use Rattle.table_rows.specs.RowTables.{bytes_of}
@@ -19,18 +19,18 @@ use Rattle.layer_manifest.specs.ManifestFiles.{manifest_code}
 use Rattle.layer_manifest.specs.Manifests.{chunk_count}
 use Rattle.layer_model.specs.declared.names.LayerName.{LayerName}
 use Rattle.layer_model.specs.Names.{IsLayerName}
-use Rattle.layer_model.specs.Layers.{IsLayer, IsPartName, Layer}
+use Rattle.layer_model.specs.Layers.{IsLayer, IsPartName, LayerObjects}
 use Rattle.collection_dir.specs.declared.fault.DirFault.{DirFault}
 use Rattle.collection_dir.specs.Faults.{IsDiskFault}
 use Rattle.collection_dir.specs.Versions.{first_version}
 use Rattle.backup_job.specs.Jobs.{IsAbout, Job, IsSameJob, MayRun, completed, written}
 use Rattle.backup_job.specs.Whole.{IsAmong, IsWriting, IsWritten, RunWrites}
-use Rattle.backup_job.proofs.Starts.{bare_count}
-use Rattle.layer_objects.specs.Objects.{described, name_of, objects_of, plan_of, rows_of}
+use Rattle.layer_objects.proofs.Counts.{bare_count}
+use Rattle.layer_objects.specs.Objects.{described, manifest_of, name_of_record, objects_of, plan_of, rows_of}
 use Rattle.layer_objects.specs.Past.{KeepsPast}
-use Rattle.layer_objects.specs.Storable.{manifest_of, older_manifest}
-use Rattle.layer_objects.proofs.Names.{objects-name}
-use Rattle.layer_objects.proofs.Writable.{manifests-tell}
+use Rattle.layer_objects.specs.Storable.{older_manifest}
+use Rattle.layer_objects.proofs.Names.{objects-manifest, objects-name}
+use Rattle.layer_objects.proofs.Writable.{first-manifest, manifests-tell}
 use Rattle.machine_model.specs.Machine.{Backup, Machine, Stepped, answered}
 use Rattle.machine_model.specs.Machine as machine
 use Rattle.machine_model.specs.Past.{IsLater}
@@ -42,7 +42,7 @@ use Rattle.cluster_core.specs.ClusterView.{ClusterState, record_of}
 use Rattle.cluster_core.specs.Standing.{HasBackups, IsBooked, IsOwnBackup, Keeps, StandsFor, machine_of}
 use Rattle.cluster_core.specs.Backing.{IsFullJob, done_of, with_backup, with_job}
 use Rattle.cluster_core.proofs.Kept.{keeps-as}
-use Rattle.cluster_core.proofs.Lists.{got-push}
+use Rattle.machine_model.proofs.Lists.{got-push}
 use Rattle.cluster_core.proofs.Others.{IsSameOf, final, same-of-other, still-gone, still-there}
 
 -- ---- lists
@@ -74,7 +74,7 @@ one-only : {X : Type 0} (x y : X) → Has x (y ∷ []) → x ≡ y
 one-only x y (inl e) = e
 one-only x y (inr none) = absurd none
 
-same-backup : (q r : recorded.Layer) → Backup q ≡ Backup r → q ≡ r
+same-backup : (q r : recorded.LayerRecord) → Backup q ≡ Backup r → q ≡ r
 same-backup q r e = cc e
 
 -- ---- the cluster
@@ -93,7 +93,7 @@ module _ (c : ClusterState) (tables : List Table) (k : Keeps c tables) (b : HasB
   abbrev h : Tables
   h = bytes_of (rows_of tables)
 
-  abbrev r : recorded.Layer
+  abbrev r : recorded.LayerRecord
   r = full_layer (machine_of c tables) collection scope end
 
   abbrev dated : ClusterState
@@ -108,13 +108,13 @@ module _ (c : ClusterState) (tables : List Table) (k : Keeps c tables) (b : HasB
   own : IsOwnBackup (with_job dated next) tables (length c.jobs) r
   own = record { number = refl; cluster = refl; full = j.full; over = within; few = j.may.few }
 
-  still-own : (place : ℕ) (q : recorded.Layer) → IsOwnBackup c tables place q → IsOwnBackup (with_job dated next) tables place q
+  still-own : (place : ℕ) (q : recorded.LayerRecord) → IsOwnBackup c tables place q → IsOwnBackup (with_job dated next) tables place q
   still-own place q o = record { number = o.number; cluster = o.cluster; full = o.full; over = le-trans q.end c.clock clock o.over on; few = o.few }
 
   jobs-are : (with_job dated next).jobs ≡ c.jobs ++ Backup r ∷ []
-  jobs-are = ap (λ (q : recorded.Layer). c.jobs ++ Backup q ∷ []) is-record
+  jobs-are = ap (λ (q : recorded.LayerRecord). c.jobs ++ Backup q ∷ []) is-record
 
-  backups : (place : ℕ) (q : recorded.Layer) → slice_get (with_job dated next).jobs place ≡ Some (Backup q) → IsOwnBackup (with_job dated next) tables place q
+  backups : (place : ℕ) (q : recorded.LayerRecord) → slice_get (with_job dated next).jobs place ≡ Some (Backup q) → IsOwnBackup (with_job dated next) tables place q
   backups place q got = ⊎_elim
       (λ (before : slice_get c.jobs place ≡ Some (Backup q)). still-own place q (b.backups place q before))
       (λ (last : (place ≡ length c.jobs) × (Backup r ≡ Backup q)). subst (λ (i : ℕ). IsOwnBackup (with_job dated next) tables i q) (sym last.0) (subst (IsOwnBackup (with_job dated next) tables (length c.jobs)) (same-backup r q last.1) own))
@@ -134,19 +134,19 @@ module _ (c : ClusterState) (tables : List Table) (k : Keeps c tables) (b : HasB
 
   module _ (whole : next.manifest ≡ completed h job) where
     manifest-is : next.manifest ≡ manifest_of tables r
-    manifest-is = whole ∙ ap (completed h) j.is
+    manifest-is = whole ∙ (ap (completed h) j.is ∙ j.writes.manifest)
 
-    name-is : next.name ≡ name_of r
+    name-is : next.name ≡ name_of_record r
     name-is = same.name ∙ ap (λ (x : Job). x.name) j.is
 
     told : (next.manifest ≡ manifest_of tables r) × (chunk_count next.manifest.tables ≡ length (objects_of tables r).chunks)
-    told = manifests-tell tables r next.manifest j.may (rw manifest-is j.may.proper) (ap manifest_code manifest-is ∙ sym (j.may.about.manifest))
+    told = manifests-tell tables r next.manifest j.may (rw manifest-is j.may.proper) (ap manifest_code manifest-is ∙ sym (objects-manifest tables r))
 
     new-booked : IsBooked (with_job dated next).jobs tables (next.name, next.manifest)
     new-booked = record {
       among = has-last _ c.jobs;
-      manifest = ap manifest_code manifest-is ∙ (sym j.may.about.manifest ∙ ap (λ (q : recorded.Layer). (objects_of tables q).manifest) (sym is-record));
-      chunks = told.1 ∙ ap (λ (q : recorded.Layer). length (objects_of tables q).chunks) (sym is-record);
+      manifest = ap manifest_code manifest-is ∙ (sym (objects-manifest tables r) ∙ ap (λ (q : recorded.LayerRecord). (objects_of tables q).manifest) (sym is-record));
+      chunks = told.1 ∙ ap (λ (q : recorded.LayerRecord). length (objects_of tables q).chunks) (sym is-record);
       proper = rw manifest-is j.may.proper;
     }
 
@@ -155,8 +155,8 @@ module _ (c : ClusterState) (tables : List Table) (k : Keeps c tables) (b : HasB
 
     machine-is : with_made (machine_of c tables) clock r ≡ machine_of (with_backup dated next) tables
     machine-is =
-        ap (λ (q : recorded.Layer). record (machine_of c tables) { clock = clock; layers = map record_of c.book.layers ++ q ∷ []; jobs = c.jobs ++ Backup q ∷ [] }) (sym is-record)
-        ∙ ap (λ (qs : List recorded.Layer). record (machine_of c tables) { clock = clock; layers = qs; jobs = c.jobs ++ Backup (record_of (next.name, next.manifest)) ∷ [] }) (sym (map-append record_of c.book.layers _))
+        ap (λ (q : recorded.LayerRecord). record (machine_of c tables) { clock = clock; layers = map record_of c.book.layers ++ q ∷ []; jobs = c.jobs ++ Backup q ∷ [] }) (sym is-record)
+        ∙ ap (λ (qs : List recorded.LayerRecord). record (machine_of c tables) { clock = clock; layers = qs; jobs = c.jobs ++ Backup (record_of (next.name, next.manifest)) ∷ [] }) (sym (map-append record_of c.book.layers _))
 
     -- a job that is done adds its layer
     pub made : StandsFor (with_backup dated next) (with_made (machine_of c tables) clock r)
@@ -168,7 +168,7 @@ module _ (c : ClusterState) (tables : List Table) (k : Keeps c tables) (b : HasB
     }
 
     pub answer-is : done_of next.name next.manifest ≡ backup_done r (manifest_of tables r)
-    answer-is = ap (λ (n : LayerName). done_of n next.manifest) name-is ∙ ap (done_of (name_of r)) manifest-is
+    answer-is = ap (λ (n : LayerName). done_of n next.manifest) name-is ∙ ap (done_of (name_of_record r)) manifest-is
 
     pub few : chunk_count next.manifest.tables ≤ 1000000
     few = let n = told.1 in let l = j.may.few.few in omega (arith, n, l)
@@ -176,13 +176,13 @@ module _ (c : ClusterState) (tables : List Table) (k : Keeps c tables) (b : HasB
 -- ---- the disk
 
 -- what holds of the layer of a backup over later tables
-pub record IsPast (tables new : List Table) (q : recorded.Layer) : Type 0 where
+pub record IsPast (tables new : List Table) (q : recorded.LayerRecord) : Type 0 where
   pub final_is : objects_of new q ≡ objects_of tables q
   pub few : IsLayer (objects_of new q)
   pub named : IsLayerName (objects_of new q).name
   pub number : (objects_of new q).name.job ≡ q.job
 
-pub past : (tables new : List Table) (q : recorded.Layer) → objects_of new q ≡ objects_of tables q → IsLayer (objects_of tables q) → IsLayerName (name_of q) → IsPast tables new q
+pub past : (tables new : List Table) (q : recorded.LayerRecord) → objects_of new q ≡ objects_of tables q → IsLayer (objects_of tables q) → IsLayerName (name_of_record q) → IsPast tables new q
 past tables new q is few named = record {
   final_is = is;
   few = subst IsLayer (sym is) few;
@@ -191,21 +191,21 @@ past tables new q is few named = record {
 }
 
 -- the backups of a cluster on its way to an end
-pub past-backup : (c : ClusterState) (tables new : List Table) (t : Time) → Keeps c tables → KeepsPast t tables new → time_le c.clock t ≡ true → (place : ℕ) (q : recorded.Layer) → IsOwnBackup c tables place q → IsPast tables new q
+pub past-backup : (c : ClusterState) (tables new : List Table) (t : Time) → Keeps c tables → KeepsPast t tables new → time_le c.clock t ≡ true → (place : ℕ) (q : recorded.LayerRecord) → IsOwnBackup c tables place q → IsPast tables new q
 past-backup c tables new t k kept on place q o = past tables new q (final c tables new t q k kept o.full (le-trans q.end c.clock t o.over on)) o.few o.full.name
 
 -- where only names of one layer changed, those of a backup of another number are as before
-pub same-backups : (tables new : List Table) (q : recorded.Layer) (w : Layer) (a b : View) (P R : List ℕ → Type 0) → IsPast tables new q → ((n : List ℕ) → P n → IsPartName w n) → ((n : List ℕ) → R n → IsPartName w n) → ChangesOnly P R a b
+pub same-backups : (tables new : List Table) (q : recorded.LayerRecord) (w : LayerObjects) (a b : View) (P R : List ℕ → Type 0) → IsPast tables new q → ((n : List ℕ) → P n → IsPartName w n) → ((n : List ℕ) → R n → IsPartName w n) → ChangesOnly P R a b
     → a.tells ≡ true → IsLayer w → IsLayerName w.name → q.job ≢ w.name.job → IsSameOf (objects_of new q) a.objects b.objects
 same-backups tables new q w a b P R p puts removals changes tells few named other =
     same-of-other (objects_of new q) w a b P R puts removals changes tells p.few few p.named named (λ e. other (sym p.number ∙ ap (λ (n : LayerName). n.job) e))
 
 -- the place of an own layer's backup
-pub own-place : (c : ClusterState) (tables : List Table) → HasBackups c tables → (q : recorded.Layer) → Has q (map record_of c.book.layers) → (place : ℕ) × (slice_get c.jobs place ≡ Some (Backup q)) × (place < length c.jobs)
+pub own-place : (c : ClusterState) (tables : List Table) → HasBackups c tables → (q : recorded.LayerRecord) → Has q (map record_of c.book.layers) → (place : ℕ) × (slice_get c.jobs place ≡ Some (Backup q)) × (place < length c.jobs)
 own-place c tables b q has =
     let m = map-has record_of q c.book.layers has in
     let p = has-place (Backup (record_of m.0)) c.jobs (b.layers m.0 m.1).among in
-    (p.0, p.1 ∙ ap (λ (x : recorded.Layer). Some (Backup x)) (sym m.2), p.2)
+    (p.0, p.1 ∙ ap (λ (x : recorded.LayerRecord). Some (Backup x)) (sym m.2), p.2)
 
 module _ (c : ClusterState) (tables : List Table) (k : Keeps c tables) (b : HasBackups c tables) (collection : List ℕ) (scope : Scope) (end clock : Time) (within : time_le end clock ≡ true) (on : time_le c.clock clock ≡ true)
     (job : Job) (j : IsFullJob (machine_of c tables) collection scope end job) (to : Machine) (first : View) (ready : IsReady (Some (machine_of c tables)) (Some to) first)
@@ -213,10 +213,10 @@ module _ (c : ClusterState) (tables : List Table) (k : Keeps c tables) (b : HasB
   abbrev store : Tables
   store = bytes_of (rows_of tables)
 
-  abbrev made-record : recorded.Layer
+  abbrev made-record : recorded.LayerRecord
   made-record = full_layer (machine_of c tables) collection scope end
 
-  abbrev new-layer : Layer
+  abbrev new-layer : LayerObjects
   new-layer = objects_of tables made-record
 
   new-past : IsPast tables to.history.tables made-record
@@ -236,27 +236,31 @@ module _ (c : ClusterState) (tables : List Table) (k : Keeps c tables) (b : HasB
   none-written : written job ≡ 0
   none-written = ap written j.is ∙ bare_count (described tables) false (plan_of tables made-record).floor end (plan_of tables made-record).tables
 
+  -- its layer over the tables at the end
+  pub final-of : objects_of to.history.tables made-record ≡ new-layer
+  final-of = new-past.final_is
+
   pub is-among-layers : IsAmong (setting_of to) new-layer
-  is-among-layers = record { proper = settings-proper to; started = is-started; finished = is-started }
+  is-among-layers = record { started = record { proper = settings-proper to; among = is-started }; finished = is-started }
 
   pub is-writing : IsWriting older_manifest (setting_of to) new-layer store job first
   is-writing = record {
     known = ready.known;
-    may = subst (MayRun store) (sym j.is) j.may.may;
-    about = subst (λ (x : Job). IsAbout store x new-layer) (sym j.is) j.may.about;
+    may = subst (MayRun store) (sym j.is) j.writes.may;
+    about = subst (λ (x : Job). IsAbout store x new-layer) (sym j.is) j.writes.about;
     stands = ready_images (Some (machine_of c tables)) (Some to) first ready;
     gate = ready.settled _;
     ahead = λ i le lt. ready.settled _;
     chunks = λ i less. absurd (let z = none-written in omega (arith, less, z));
     marks = λ i less. absurd (let z = none-written in omega (arith, less, z));
-    calm = λ is_open. ready.settled;
+    calm = record { marks = λ n touched. absurd (true≢false (sym touched ∙ ready.settled n)); shut = λ is_open n is_part. ready.settled n };
   }
 
   pub only-disk : {T : Type 0} (result : Result T DirFault) (next : Job) (now : View) → RunWrites older_manifest (setting_of to) new-layer (completed store job) result next first now → IfErr result IsDiskFault
-  only-disk result next now runs = runs.fault (j.may.older ∙ ap (λ (x : Job). manifest_code (first_version (completed store x))) (sym j.is))
+  only-disk result next now runs = runs.fault (j.may.older ∙ (first-manifest tables made-record ∙ ap (λ (m : Manifest). manifest_code (first_version m)) (sym (ap (completed store) j.is ∙ j.writes.manifest))))
 
   module _ (now : View) (changes : ChangesOnly (IsPartName new-layer) NoName first now) where
-    other-same : (place : ℕ) (q : recorded.Layer) → slice_get c.jobs place ≡ Some (Backup q) → place < length c.jobs → IsSameOf (objects_of to.history.tables q) first.objects now.objects
+    other-same : (place : ℕ) (q : recorded.LayerRecord) → slice_get c.jobs place ≡ Some (Backup q) → place < length c.jobs → IsSameOf (objects_of to.history.tables q) first.objects now.objects
     other-same place q got lt =
         let o = b.backups place q got in
         let n = o.number in
@@ -264,23 +268,23 @@ module _ (c : ClusterState) (tables : List Table) (k : Keeps c tables) (b : HasB
         same-backups tables to.history.tables q new-layer first now (IsPartName new-layer) NoName (past-backup c tables to.history.tables clock k later.tables on place q o) (λ x p. p) (λ x no. absurd no) changes ready.known.tells j.may.few
         (subst IsLayerName (sym (objects-name tables made-record)) j.full.name) (λ e. omega (arith, n, m, e, lt))
 
-    pub done-ready : IsWritten older_manifest new-layer now → StandsUntil (Some to) now.objects → IsReady (Some (with_made (machine_of c tables) clock made-record)) (Some to) now
-    done-ready done stands = record { known = done.known; settled = done.settled; stands = stands; kept = record { there = there; gone = gone } }
+    pub done-ready : IsWritten older_manifest new-layer now → IsSettled now → StandsUntil (Some to) now.objects → IsReady (Some (with_made (machine_of c tables) clock made-record)) (Some to) now
+    done-ready done settled stands = record { known = done.known; settled = settled; stands = stands; kept = record { there = there; gone = gone } }
       where
         new-there : IsThere (objects_of to.history.tables made-record) now.objects
-        new-there = subst (λ (x : Layer). IsThere x now.objects) (sym new-past.final_is) (done.whole now.objects (as_read now))
+        new-there = subst (λ (x : LayerObjects). IsThere x now.objects) (sym new-past.final_is) (done.whole now.objects (as_read now))
 
-        there : (q : recorded.Layer) → Has q (map record_of c.book.layers ++ made-record ∷ []) → IsThere (objects_of to.history.tables q) now.objects
+        there : (q : recorded.LayerRecord) → Has q (map record_of c.book.layers ++ made-record ∷ []) → IsThere (objects_of to.history.tables q) now.objects
         there q has = ⊎_elim
             (λ (old : Has q (map record_of c.book.layers)). let p = own-place c tables b q old in still-there (objects_of to.history.tables q) first.objects now.objects (other-same p.0 q p.1 p.2) (ready.kept.there q old))
-            (λ (new : Has q (made-record ∷ [])). subst (λ (x : recorded.Layer). IsThere (objects_of to.history.tables x) now.objects) (sym (one-only q made-record new)) new-there)
+            (λ (new : Has q (made-record ∷ [])). subst (λ (x : recorded.LayerRecord). IsThere (objects_of to.history.tables x) now.objects) (sym (one-only q made-record new)) new-there)
             (has-append_cases q (map record_of c.book.layers) (made-record ∷ []) has)
 
-        gone : (q : recorded.Layer) → Has (Backup q) (c.jobs ++ Backup made-record ∷ []) → Has q (map record_of c.book.layers ++ made-record ∷ []) ⊎ IsGone (objects_of to.history.tables q) now.objects
+        gone : (q : recorded.LayerRecord) → Has (Backup q) (c.jobs ++ Backup made-record ∷ []) → Has q (map record_of c.book.layers ++ made-record ∷ []) ⊎ IsGone (objects_of to.history.tables q) now.objects
         gone q has = ⊎_elim
             (λ (old : Has (Backup q) c.jobs). ⊎_elim
             (λ (own : Has q (map record_of c.book.layers)). inl (has-left q (map record_of c.book.layers) (made-record ∷ []) own))
             (λ (was : IsGone (objects_of to.history.tables q) first.objects). inr (let p = has-place (Backup q) c.jobs old in still-gone (objects_of to.history.tables q) first.objects now.objects (other-same p.0 q p.1 p.2) was))
             (ready.kept.gone q old))
-            (λ (new : Has (Backup q) (Backup made-record ∷ [])). inl (subst (λ (x : recorded.Layer). Has x (map record_of c.book.layers ++ made-record ∷ [])) (sym (same-backup q made-record (one-only (Backup q) (Backup made-record) new))) (has-last made-record (map record_of c.book.layers))))
+            (λ (new : Has (Backup q) (Backup made-record ∷ [])). inl (subst (λ (x : recorded.LayerRecord). Has x (map record_of c.book.layers ++ made-record ∷ [])) (sym (same-backup q made-record (one-only (Backup q) (Backup made-record) new))) (has-last made-record (map record_of c.book.layers))))
             (has-append_cases (Backup q) c.jobs (Backup made-record ∷ []) has)

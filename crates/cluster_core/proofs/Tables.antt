@@ -11,7 +11,7 @@ use Rattle.history_model.specs.Histories.{Table}
 use Rattle.version_store.specs.Tables.{Tables}
 use Rattle.table_rows.specs.RowTables.{RowTables, HasRows, IsRowFact, coded, with_facts, with_threshold}
 use Rattle.layer_objects.specs.Objects.{by_id, table_kinds, table_facts, table_threshold, rows_of}
-use Rattle.cluster_core.proofs.Lists.{got-set, got-set_other}
+use Rattle.machine_model.proofs.Lists.{got-set, got-set_other}
 
 module _ {X : Type 0} (none : X) (f : Table → X) where
   pub by_id-at : (tables : List Table) (i : ℕ) (t : Table) → slice_get tables i ≡ Some t → by_id none f tables (100 + i) ≡ f t

@@ -10,7 +10,7 @@ use Rattle.schema_catalog.specs.Catalogs.{Schemas, history_of, id_named, IsChang
 use Rattle.cluster_core.specs.declared.cluster.Cluster.TheInside.{Inside}
 use Rattle.cluster_core.specs.ClusterView.{AreWithin, IsSound}
 use Rattle.cluster_core.specs.Finding.{found_in}
-use Rattle.cluster_core.proofs.Lists.{got-has}
+use Rattle.machine_model.proofs.Lists.{got-has}
 use Rattle.cluster_core.proofs.Kept.{in_force-has}
 
 pub found-force : (s : Schemas) (name : List ℕ × List ℕ) (t : Time) (id : ℕ) (d : Schema) → found_in s name t ≡ Some (id, d) → in_force (history_of s id) t ≡ Some d

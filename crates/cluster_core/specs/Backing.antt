@@ -6,7 +6,9 @@ use Rattle.layer_manifest.specs.declared.manifest.Manifest.{Manifest}
 use Rattle.layer_manifest.specs.Manifests.{chunk_count, entry_count}
 use Rattle.layer_model.specs.declared.names.LayerName.{LayerName}
 use Rattle.backup_job.specs.Jobs.{Job}
-use Rattle.layer_objects.specs.Storable.{IsFull, MayBeWritten, job_of}
+use Rattle.backup_job.specs.Records.{WritesLayer, job_of}
+use Rattle.layer_objects.specs.Storable.{MayBeWritten}
+use Rattle.cluster_core.specs.FullLayers.{IsFull}
 use Rattle.layer_book.specs.Books.{Book, name_in, with_layer}
 use Rattle.layer_book.specs.Subdirectories.{layers_of, subdirectories_of}
 use Rattle.script_grammar.specs.declared.backups.Src.{Src}
@@ -40,12 +42,13 @@ IsEndingFault clock (Some t) e = RefusedBy e (refusal_if (time_lt clock t) (Futu
 abbrev pub layer_refusal : Machine → List ℕ → Scope → Time → Option Refusal
 layer_refusal m collection scope end = first_refusal (end_refusal m collection end ∷ plan_refusal m scope end ∷ [])
 
--- a job for a full layer that no test refuses; it may run
+-- a job for a full layer that no test refuses; it may run, and writes the layer
 pub record IsFullJob (m : Machine) (collection : List ℕ) (scope : Scope) (end : Time) (job : Job) : Type 0 where
   pub passed : layer_refusal m collection scope end ≡ None
   pub is : job ≡ job_of m.history.tables (full_layer m collection scope end)
   pub full : IsFull (full_layer m collection scope end)
   pub may : MayBeWritten m.history.tables (full_layer m collection scope end)
+  pub writes : WritesLayer m.history.tables (full_layer m collection scope end)
 
 -- what a backup that is done is answered
 abbrev pub done_of : LayerName → Manifest → Answer

@@ -16,14 +16,15 @@ use Rattle.table_descriptors.specs.Descriptors.{Schema, key_kinds}
 use Rattle.fact_model.specs.Facts.{Put}
 use Rattle.history_model.specs.Histories.{Table}
 use Rattle.outside_world.specs.Objects.{Objects}
-use Rattle.history_model.specs.Layers.{Layer}
+use Rattle.history_model.specs.Layers.{LayerRecord}
 use Rattle.history_model.specs.Rows.{RowItem}
 use Rattle.layer_manifest.specs.declared.manifest.Manifest.{Manifest}
 use Rattle.layer_model.specs.declared.names.LayerName.{LayerName}
 use Rattle.layer_model.specs.declared.names.Part.TheVariants.{Chunk}
 use Rattle.layer_model.specs.Layers.{Holds}
-use Rattle.layer_objects.specs.Objects.{name_of, objects_of}
-use Rattle.layer_objects.specs.Storable.{AreStorable, IsFull, IsSized, MayBeWritten, manifest_of}
+use Rattle.layer_objects.specs.Objects.{manifest_of, name_of_record, objects_of}
+use Rattle.layer_objects.specs.Storable.{AreStorable, IsSized, MayBeWritten}
+use Rattle.cluster_core.specs.FullLayers.{IsFull}
 use Rattle.layer_rows.specs.Putting.{DifferInKey, IsItem, stored_put}
 use Rattle.layer_rows.specs.Reading.{AreEntriesOf}
 use Rattle.layer_book.specs.Books.{Book}
@@ -89,8 +90,8 @@ IsChainFault book source collection at halt = IsSourceFault book source collecti
 -- ---- rows
 
 -- The layer of a name with this manifest is a full one of these tables, and its chunks are on the disk.
-pub record IsStanding (tables : List Table) (r : Layer) (layer : LayerName) (m : Manifest) (objects : Objects) : Type 0 where
-  pub name : layer ≡ name_of r
+pub record IsStanding (tables : List Table) (r : LayerRecord) (layer : LayerName) (m : Manifest) (objects : Objects) : Type 0 where
+  pub name : layer ≡ name_of_record r
   pub manifest : m ≡ manifest_of tables r
   pub full : IsFull r
   pub may : MayBeWritten tables r
@@ -153,7 +154,7 @@ pub record AreRowsOf (id : ℕ) (kinds : List Kind) (entries : List Entry) (item
 -- ---- what is done
 
 -- what is done with the chain of a source, and the time to which it leads
-abbrev pub with_chain : Machine → Src → List ℕ → Option Time → (Time → List Layer → Stepped) → Stepped
+abbrev pub with_chain : Machine → Src → List ℕ → Option Time → (Time → List LayerRecord → Stepped) → Stepped
 with_chain m source collection at change = with_source m source collection (λ s.
     let rs = layers_in m collection s in
     with_cover m rs (cover (links_of rs) (time_of rs at)) (change (time_of rs at)))

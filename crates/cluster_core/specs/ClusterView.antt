@@ -5,7 +5,7 @@ use Rattle.table_descriptors.specs.Descriptors.{Schema}
 use Rattle.list_laws.specs.Members.{Has}
 use Rattle.schema_catalog.specs.Catalogs.{Schemas}
 use Rattle.version_store.specs.declared.mvcc_map.MvccMap.{MvccMap}
-use Rattle.history_model.specs.Layers.{Layer}
+use Rattle.history_model.specs.Layers.{LayerRecord}
 use Rattle.layer_manifest.specs.declared.manifest.Manifest.{Manifest}
 use Rattle.layer_model.specs.declared.names.LayerName.{LayerName}
 use Rattle.layer_book.specs.Books.{Book}
@@ -17,7 +17,7 @@ use Rattle.cluster_core.specs.declared.cluster.Cluster.TheInside.{Inside}
 -- ---- jobs and layers
 
 -- the record of a layer of that name with this manifest
-abbrev pub record_of : LayerName × Manifest → Layer
+abbrev pub record_of : LayerName × Manifest → LayerRecord
 record_of p = record {
   collection = p.0.collection;
   cluster = p.0.cluster;

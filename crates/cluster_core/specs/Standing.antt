@@ -1,13 +1,14 @@
 -- The machine for which a cluster stands.
-use Rattle.std.specs.Prelude.{◌≡◌, ◌≢◌, ℕ, ◌+◌, ◌-◌, ◌^◌, ◌≤◌, true, List, [], slice_get, map, length, Option, Some, Result, Ok, Err, MatchResult}
+use Rattle.std.specs.Prelude.{◌≡◌, ◌≢◌, ℕ, ◌+◌, ◌-◌, ◌^◌, ◌<◌, ◌≤◌, true, List, [], slice_get, map, length, Option, Some, Result, Ok, Err, MatchResult}
 use Rattle.mvcc_keys.specs.Times.{Time, zero_time, time_le}
 use Rattle.row_codec.specs.declared.rows.Kind.{Kind}
 use Rattle.table_descriptors.specs.Descriptors.{Schema, key_kinds}
 use Rattle.fact_model.specs.Facts.{date}
+use Rattle.std.specs.List.{Contains}
 use Rattle.list_laws.specs.Members.{Has}
 use Rattle.history_model.specs.Rows.{RowFact}
 use Rattle.history_model.specs.Histories.{Table, schemas_of, accepted}
-use Rattle.history_model.specs.Layers.{Layer}
+use Rattle.history_model.specs.Layers.{LayerRecord}
 use Rattle.introduced_spans.specs.PlanLaws.{ascend_after}
 use Rattle.version_store.specs.MapHolding.{KeepsAll}
 use Rattle.table_rows.specs.RowTables.{HasRows}
@@ -17,7 +18,8 @@ use Rattle.layer_manifest.specs.ManifestFiles.{manifest_code}
 use Rattle.layer_model.specs.declared.names.LayerName.{LayerName}
 use Rattle.layer_model.specs.Layers.{IsLayer}
 use Rattle.layer_objects.specs.Objects.{objects_of, rows_of, table_kinds}
-use Rattle.layer_objects.specs.Storable.{IsFull, IsSized}
+use Rattle.layer_objects.specs.Storable.{IsSized}
+use Rattle.cluster_core.specs.FullLayers.{IsFull}
 use Rattle.reply_texts.specs.declared.refusals.Refusal.{Refusal}
 use Rattle.reply_texts.specs.declared.answers.Answer.{Answer}
 use Rattle.reply_texts.specs.declared.replies.Response.{Response}
@@ -25,10 +27,13 @@ use Rattle.reply_texts.specs.declared.replies.Response.TheVariants.{Answered}
 use Rattle.reply_texts.specs.declared.replies.Response.TheVariants as response
 use Rattle.outside_world.specs.Causes.{Rose}
 use Rattle.outside_world.specs.Disk.{View}
-use Rattle.outside_world.specs.Moments.{LeavesOnly}
-use Rattle.layer_model.specs.declared.names.Part.{Part}
-use Rattle.layer_model.specs.Names.{object_name}
-use Rattle.machine_model.specs.Disks.{IsDone, IsIdle, IsReady, StandsUntil}
+use Rattle.outside_world.specs.Moments.{ChangesOnly, LeavesOnly}
+use Rattle.outside_world.specs.Objects.{Objects, at}
+use Rattle.layer_model.specs.Layers as stored
+use Rattle.layer_model.specs.Names.{IsOwnName}
+use Rattle.collection_dir.specs.Footprints.{AtMarked}
+use Rattle.collection_dir.specs.Standing.{KeepManifests}
+use Rattle.machine_model.specs.Disks.{IsDone, IsIdle, IsReady, StandsUntil, made_layers}
 use Rattle.machine_model.specs.Past.{IsLater}
 use Rattle.machine_model.specs.Machine.{Backup, Job, Machine, Stepped, refused}
 use Rattle.cluster_core.specs.declared.halts.Halt.{Halt}
@@ -72,7 +77,7 @@ pub record HasTables (c : ClusterState) (m : Machine) : Type 0 where
 -- ---- what is true of its backups
 
 -- the record of the backup at a place among the jobs
-pub record IsOwnBackup (c : ClusterState) (tables : List Table) (place : ℕ) (r : Layer) : Type 0 where
+pub record IsOwnBackup (c : ClusterState) (tables : List Table) (place : ℕ) (r : LayerRecord) : Type 0 where
   pub number : r.job ≡ place + 1
   pub cluster : r.cluster ≡ c.name
   pub full : IsFull r
@@ -88,7 +93,7 @@ pub record IsBooked (jobs : List Job) (tables : List Table) (p : LayerName × Ma
 
 -- the cluster keeps the records of its backups, and the manifests of its own layers
 pub record HasBackups (c : ClusterState) (tables : List Table) : Type 0 where
-  pub backups : (place : ℕ) (r : Layer) → slice_get c.jobs place ≡ Some (Backup r) → IsOwnBackup c tables place r
+  pub backups : (place : ℕ) (r : LayerRecord) → slice_get c.jobs place ≡ Some (Backup r) → IsOwnBackup c tables place r
   pub layers : (p : LayerName × Manifest) → Has p c.book.layers → IsBooked c.jobs tables p
 
 -- the cluster stands for the machine
@@ -144,11 +149,27 @@ IsReadyAfter (Err (Refused refusal)) m end v = IsReady (Some m) (Some end) v
 IsReadyAfter (Err Disk) m end v = Unit {0}
 IsReadyAfter (Err Memory) m end v = Unit {0}
 
--- What a command does over a disk that was ready: by its step, and on the way to the end. Where all layers of the script are done, it does nothing to the disk.
+-- the name of an object of one of the machine's layers
+abbrev pub IsOfLayers : Machine → Machine → List ℕ → Type 0
+IsOfLayers m end n = (r : LayerRecord) × Has r m.layers × Contains (made_layers end) (objects_of end.history.tables r) × stored.IsPartName (objects_of end.history.tables r) n
+
+-- the names of the own cluster's objects that are of layers of the machine after the command, and, of all layers that the script makes, none of a chunk that is marked there
+abbrev pub MayPut : Machine → Machine → Objects → List ℕ → Type 0
+MayPut m end objects n = IsOwnName end.name n × ((w : stored.LayerObjects) → Contains (made_layers end) w → ¬ AtMarked w objects n) × IsOfLayers m end n
+
+-- the objects of layers of jobs that are still to come are as they were
+abbrev pub AreAhead : Machine → Machine → Objects → Objects → Type 0
+AreAhead m end old new = (w : stored.LayerObjects) → Contains (made_layers end) w → length m.jobs < w.name.job → (n : List ℕ) → stored.IsPartName w n → at new n ≡ at old n
+
+-- What a command does over a disk that was ready: by its step, and on the way to the end. It puts and removes objects of its cluster, and puts no chunk that was marked as it began.
+-- A layer that is open afterwards and wasn't before has its manifest in version 2. Where all layers of the script are done, it does nothing to the disk.
 pub record Runs (c : ClusterState) (s : Stepped) (end : Machine) (result : Result Answer Halt) (old new : View) : Type 0 where
   pub responds : Responds c s result
   pub ready : IsReadyAfter result s.machine end new
   pub leaves : LeavesOnly old new (StandsUntil (Some end))
+  pub changes : ChangesOnly (MayPut s.machine end old.objects) (IsOwnName end.name) old new
+  pub ahead : AreAhead s.machine end old.objects new.objects
+  pub manifests : KeepManifests (made_layers end) old.objects new.objects
   pub idle : IsDone end old.objects → IsIdle old new
 
 -- the cluster stands for the machine, the disk is ready, and the end is one to which this step leads
@@ -156,10 +177,6 @@ pub record MayStep (c : ClusterState) (m : Machine) (s : Stepped) (end : Machine
   pub stands : StandsFor c m
   pub ready : IsReady (Some m) (Some end) v
   pub later : IsLater s.machine end
-
--- names of the own cluster's objects
-abbrev pub IsOwnName : List ℕ → List ℕ → Type 0
-IsOwnName cluster n = (layer : LayerName) × (part : Part) × (layer.cluster ≡ cluster) × (n ≡ object_name layer part)
 
 -- the disk failed just where the halt says so
 abbrev pub HaltCounts : Halt → ℕ → ℕ → Type 0

@@ -5,15 +5,17 @@ use Rattle.reply_texts.specs.declared.replies.Reply.{Reply}
 use Rattle.reply_texts.specs.declared.replies.Response.{Response}
 use Rattle.reply_texts.specs.Texts.{reply_text, refusal_of}
 use Rattle.outside_world.specs.Disk.{View}
-use Rattle.outside_world.specs.Moments.{LeavesOnly}
+use Rattle.outside_world.specs.Moments.{ChangesOnly, LeavesOnly}
+use Rattle.layer_model.specs.Names.{IsOwnName}
+use Rattle.collection_dir.specs.Standing.{KeepManifests}
 use Rattle.command_lang.specs.declared.command.Command.{Command}
 use Rattle.command_lang.specs.declared.command.Command.TheVariants.{BackupDatabase, BackupTables, Forget, RestoreDatabase}
-use Rattle.machine_model.specs.Disks.{IsDone, IsIdle, IsReady, StandsUntil}
+use Rattle.machine_model.specs.Disks.{IsDone, IsIdle, IsReady, StandsUntil, made_layers}
 use Rattle.machine_model.specs.Machine.{Machine, Stepped}
 use Rattle.cluster_core.specs.declared.fault.RunFault.{RunFault}
 use Rattle.cluster_core.specs.declared.fault.RunFault.TheVariants.{Disk, Memory, Ended}
 use Rattle.cluster_core.specs.ClusterView.{ClusterState}
-use Rattle.cluster_core.specs.Standing.{StandsFor}
+use Rattle.cluster_core.specs.Standing.{AreAhead, MayPut, StandsFor}
 
 -- the reply of a response: its text, and the refusal if it is one
 pub record IsReplyOf (response : Response) (reply : Reply) : Type 0 where
@@ -37,11 +39,15 @@ pub record RunHasCause {T : Type 0} (before now : ℕ) (result : Result T RunFau
   pub capped : before ≤ 2 ^ 64 - 1 → now ≤ 2 ^ 64 - 1
   pub counts : MatchResult result (λ _. now ≡ before) (λ e. CountsAs e before now)
 
--- What a step does over a disk that was ready: by the machine's step, and on the way to the end. Where all layers of the script are done, it does nothing to the disk.
+-- What a step does over a disk that was ready: by the machine's step, and on the way to the end. It puts and removes objects of its cluster, and puts no chunk that was marked as it began.
+-- A layer that is open afterwards and wasn't before has its manifest in version 2. Where all layers of the script are done, it does nothing to the disk.
 pub record Steps (c : ClusterState) (s : Stepped) (end : Machine) (result : Result Reply RunFault) (old new : View) : Type 0 where
   pub replied : IfOk result (λ r. IsReplied c r s)
   pub ready : OnOk result (IsReady (Some s.machine) (Some end) new)
   pub leaves : LeavesOnly old new (StandsUntil (Some end))
+  pub changes : ChangesOnly (MayPut s.machine end old.objects) (IsOwnName end.name) old new
+  pub ahead : AreAhead s.machine end old.objects new.objects
+  pub manifests : KeepManifests (made_layers end) old.objects new.objects
   pub idle : IsDone end old.objects → IsIdle old new
 
 -- a command that may call the disk

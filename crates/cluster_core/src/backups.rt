@@ -8,13 +8,13 @@ ghost use Rattle.outside_world.specs.Moments.{ChangesOnly};
 ghost use Rattle.collection_dir.specs.Faults.{CountsAs, IsDiskFault};
 ghost use Rattle.introduced_spans.specs.Spans.{plan_fault, threshold_of};
 ghost use Rattle.layer_manifest.specs.Manifests.{IsProperScope, chunk_count};
-ghost use Rattle.layer_model.specs.Names.{IsLayerName};
-ghost use Rattle.layer_objects.specs.Objects.{by_id, name_of, plan_of, table_threshold};
+ghost use Rattle.layer_objects.specs.Objects.{by_id, name_of_record, plan_of, table_threshold};
 ghost use Rattle.reply_texts.specs.declared.refusals.Refusal.TheVariants.{EndNotAfter};
 ghost use Rattle.machine_model.specs.Machine.{Machine, refusal_if};
 ghost use Rattle.machine_model.specs.Backups.{backup_database, backup_tables, forget, full_backup, full_layer, is_between_times, is_subdirectory, show_backups, source_among};
 ghost use Rattle.cluster_core.specs.ClusterView.{record_of};
-ghost use Rattle.cluster_core.specs.Standing.{Does, HaltCounts, HaltHasCause, IsOwnName, Keeps, MayStep, RefusedBy, Runs, StandsFor, machine_of};
+ghost use Rattle.layer_model.specs.Names.{IsLayerName, IsOwnName};
+ghost use Rattle.cluster_core.specs.Standing.{Does, HaltCounts, HaltHasCause, Keeps, MayStep, RefusedBy, Runs, StandsFor, machine_of};
 ghost use Rattle.cluster_core.specs.Backing.{AreLayersFrom, IsEnding, IsEndingFault, IsFullJob, IsSourceFault, StandsStill, done_of, layer_refusal, with_backup, with_job};
 ghost use Rattle.cluster_core.specs.Halting.{halt_of_dir};
 ghost use Rattle.reply_texts.specs.declared.refusals.Refusal.{Refusal};
@@ -181,7 +181,7 @@ impl Cluster {
     fn full_name(&self, collection: &Name, end: Hlc) -> Result<LayerName, Memory>
         requires time { IsTime end }
         requires room { length self.now.jobs < 4294967295 }
-        ensures name { IfOk result (λ n. (tables : List Table) (scope : Scope) → n ≡ name_of (full_layer (machine_of self.now tables) collection.now scope end)) }
+        ensures name { IfOk result (λ n. (tables : List Table) (scope : Scope) → n ≡ name_of_record (full_layer (machine_of self.now tables) collection.now scope end)) }
         ensures form { IfOk result IsLayerName }
     {
         Ok(LayerName {

@@ -265,7 +265,7 @@ fn read_chosen<D: Disk>(
     d: &Descriptor,
 ) -> Result<Vec<Entry>, DirFault>
     requires { IsProperManifest m.now }
-    ensures rows { (tables : List Table) (r : records.Layer) (database : List ℕ) → Tells (D.view disk.old) → IsStanding tables r layer.now m.now (D.view disk.old).objects → Has d.now (chosen_tables tables database r.end r)
+    ensures rows { (tables : List Table) (r : records.LayerRecord) (database : List ℕ) → Tells (D.view disk.old) → IsStanding tables r layer.now m.now (D.view disk.old).objects → Has d.now (chosen_tables tables database r.end r)
         → IfOk result (λ v. v.items ≡ stored_rows tables r.end d.now) × IfErr result IsDiskFault }
     ensures typed { IfOk result (λ v. AreEntriesOf d.now.id (key_kinds d.now) v.items) }
     ensures reads { OnlyReads (D.view disk.old) (D.view disk.new) }
@@ -293,7 +293,7 @@ pub(crate) fn read_rows<D: Disk>(
     chosen: &[Descriptor],
 ) -> Result<Vec<Vec<Entry>>, DirFault>
     requires { IsProperManifest m.now }
-    ensures rows { (tables : List Table) (r : records.Layer) (database : List ℕ) → Tells (D.view disk.old) → IsStanding tables r layer.now m.now (D.view disk.old).objects → chosen.now ≡ chosen_tables tables database r.end r
+    ensures rows { (tables : List Table) (r : records.LayerRecord) (database : List ℕ) → Tells (D.view disk.old) → IsStanding tables r layer.now m.now (D.view disk.old).objects → chosen.now ≡ chosen_tables tables database r.end r
         → IfOk result (λ v. map entries_in v.items ≡ map (stored_rows tables r.end) chosen.now) × IfErr result IsDiskFault }
     ensures typed { IfOk result (λ v. AreTypedRows chosen.now v.items) }
     ensures reads { OnlyReads (D.view disk.old) (D.view disk.new) }

@@ -8,7 +8,8 @@ ghost use Rattle.machine_model.specs.Tables.{tick};
 ghost use Rattle.machine_model.specs.Step.{step};
 ghost use Rattle.cluster_core.specs.declared.fault.RunFault.TheVariants as fault;
 ghost use Rattle.cluster_core.specs.declared.halts.Halt.TheVariants as halt;
-ghost use Rattle.cluster_core.specs.Standing.{Does, HaltHasCause, IsOwnName, LeavesRest, MayStep, Runs, StandsFor};
+ghost use Rattle.layer_model.specs.Names.{IsOwnName};
+ghost use Rattle.cluster_core.specs.Standing.{Does, HaltHasCause, LeavesRest, MayStep, Runs, StandsFor};
 ghost use Rattle.cluster_core.specs.Backing.{StandsStill};
 ghost use Rattle.cluster_core.specs.Stepping.{RunHasCause, Steps, is_of_disk};
 

@@ -8,7 +8,6 @@ mod fault;
 mod finding;
 mod halts;
 mod jobs;
-mod laws;
 mod restores;
 mod restoring;
 mod rows;
@@ -16,4 +15,3 @@ mod schemas;
 
 pub use cluster::{Cluster, Limits};
 pub use fault::RunFault;
-pub use laws::steps_are_later;

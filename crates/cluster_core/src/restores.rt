@@ -18,7 +18,8 @@ ghost use Rattle.reply_texts.specs.declared.answers.Answer.TheVariants.{RestoreD
 ghost use Rattle.machine_model.specs.Restores.{chosen_tables, count_to_restore, last_of, nothing_refusal, restore_chain, restore_database, restored_as, span_of};
 ghost use Rattle.cluster_core.specs.declared.halts.Halt.TheVariants.{Memory as no_memory};
 ghost use Rattle.cluster_core.specs.ClusterView.{record_of};
-ghost use Rattle.cluster_core.specs.Standing.{HaltHasCause, IsOwnName, Keeps, MayStep, RefusedBy, Runs, StandsFor};
+ghost use Rattle.layer_model.specs.Names.{IsOwnName};
+ghost use Rattle.cluster_core.specs.Standing.{HaltHasCause, Keeps, MayStep, RefusedBy, Runs, StandsFor};
 ghost use Rattle.cluster_core.specs.Backing.{StandsStill};
 ghost use Rattle.cluster_core.specs.Chains.{AreTypedRows, IsOneLayer, IsStanding, entries_in, stored_rows};
 ghost use Rattle.cluster_core.specs.Restoring.{AreRowsOfEach, HasRoomFor, count_rows, entries_of, made_tables};
@@ -257,7 +258,7 @@ fn read_tested<D: Disk>(
     chosen: &[Descriptor],
 ) -> Result<Vec<Vec<Entry>>, Halt>
     requires { IsProperManifest m.now }
-    ensures rows { (tables : List Table) (r : records.Layer) (database : List ℕ) → Tells (D.view disk.old) → IsStanding tables r layer.now m.now (D.view disk.old).objects → chosen.now ≡ chosen_tables tables database r.end r
+    ensures rows { (tables : List Table) (r : records.LayerRecord) (database : List ℕ) → Tells (D.view disk.old) → IsStanding tables r layer.now m.now (D.view disk.old).objects → chosen.now ≡ chosen_tables tables database r.end r
         → IfOk result (λ v. map entries_in v.items ≡ map (stored_rows tables r.end) chosen.now) × IfErr result IsHard }
     ensures typed { IfOk result (λ v. AreTypedRows chosen.now v.items) }
     ensures tested { IfOk result (λ v. AreTested chosen.now v.items) }
@@ -353,7 +354,7 @@ impl Cluster {
         ensures count { IfOk result (λ p. p.count ≡ count_rows (entries_of p.rows.items)) }
         ensures fits { IfOk result (λ p. self.now.events + count_rows (entries_of p.rows.items) ≤ self.now.most_events) }
         ensures passed { IfOk result (λ p. room_test self.now (count_rows (entries_of p.rows.items)) ≡ None) }
-        ensures rows { (tables : List Table) (r : records.Layer) → Tells (D.view disk.old) → IsStanding tables r layer.now m.now (D.view disk.old).objects → shown_tables database.now time m.now ≡ chosen_tables tables database.now r.end r
+        ensures rows { (tables : List Table) (r : records.LayerRecord) → Tells (D.view disk.old) → IsStanding tables r layer.now m.now (D.view disk.old).objects → shown_tables database.now time m.now ≡ chosen_tables tables database.now r.end r
             → IfOk result (λ p. map entries_in p.rows.items ≡ map (stored_rows tables r.end) (shown_tables database.now time m.now))
             × IfErr result (λ e. EndsBy e (refusal_of_chosen self.now.schemas new.now made (shown_tables database.now time m.now) (room_test self.now (count_to_restore tables r.end (shown_tables database.now time m.now)) ∷ []))) }
         ensures reads { OnlyReads (D.view disk.old) (D.view disk.new) }

@@ -1,9 +1,11 @@
 //! The laws of these crates. They are functions with nothing in them, called so that both compilers
 //! build them.
-use backup_job::{infos_are_proper, pieces_are_chunks, started_jobs_run};
+use backup_job::{jobs_go_on, jobs_write_layers, started_jobs_run};
 use introduced_spans::{full_plans_are_whole, plans_stand};
 use layer_book::{last_full_is_greatest, layers_are_exact, maps_carry, subdirectories_are_exact};
-use layer_objects::{layers_are_final, layers_may_be_written, manifests_tell};
+use layer_objects::{
+    infos_are_proper, layers_are_final, layers_may_be_written, manifests_tell, pieces_are_chunks,
+};
 use layer_rows::{are_bytes, scans_are_stored};
 
 pub fn state_all() {
@@ -14,6 +16,8 @@ pub fn state_all() {
     last_full_is_greatest::<u8>();
     maps_carry::<u8, u8>();
     started_jobs_run();
+    jobs_write_layers();
+    jobs_go_on();
     pieces_are_chunks();
     infos_are_proper();
     scans_are_stored();

@@ -1,11 +1,11 @@
 use Rattle.std.proofs.Common.{sym, ap, ◌∙◌}
 use Rattle.command_lang.specs.declared.command.Command.TheVariants.{Cluster}
 use Rattle.outside_world.proofs.Runs.{only_none}
-use Rattle.backup_run.proofs.Stepping.{answers_known, answers_first, answers_none, first_leads, idle_cause, first_ready, still}
+use Rattle.backup_run.proofs.Stepping.{answers_known, answers_first, answers_none, first_leads, idle_cause, first_ready, known_leads, known_ready, still}
 use Rattle.backup_run.proofs.answering.execute.Goals as goal
 
 pub returns-in_err-copy-in-None-clause-leads : goal.returns-in_err-copy-in-None-clause-leads
-returns-in_err-copy-in-None-clause-leads g c = λ worlds m end may. still m end _ (g.met.D.Disk.only_now c.args.disk.now) may.ready
+returns-in_err-copy-in-None-clause-leads g c = λ worlds began m end may. still m end began _ (g.met.D.Disk.only_now c.args.disk.now) may.ready.now
 
 pub returns-in_ok-step_cluster-in-Some-clause-step : goal.returns-in_ok-step_cluster-in-Some-clause-step
 returns-in_ok-step_cluster-in-Some-clause-step g c =
@@ -17,7 +17,7 @@ returns-in_ok-reply-in-None-clause-step g c =
     (c.in-Cluster.is ∙ ap Cluster (sym c.in_ok-copy-in-None.ensures.same)) c.in_ok-made-in-None.ensures.stands c.in_ok-reply-in-None.ensures.step)
 
 pub returns-in_err-made-in-None-clause-leads : goal.returns-in_err-made-in-None-clause-leads
-returns-in_err-made-in-None-clause-leads g c = λ worlds m end may. still m end _ (g.met.D.Disk.only_now c.args.disk.now) may.ready
+returns-in_err-made-in-None-clause-leads g c = λ worlds began m end may. still m end began _ (g.met.D.Disk.only_now c.args.disk.now) may.ready.now
 
 pub returns-in_err-reply-in-None-clause-leads : goal.returns-in_err-reply-in-None-clause-leads
 returns-in_err-reply-in-None-clause-leads g c =
@@ -33,11 +33,20 @@ returns-in_ok-reply-in-None-clause-ready g c =
 
 pub returns-in_default : goal.returns-in_default
 returns-in_default g c = rw c.in-None.is (record {
-  step = λ worlds m end may. (answers_none _ c.args.command.now c.in_default.not-Cluster worlds m end may).0;
-  ready = λ worlds m end may. (answers_none _ c.args.command.now c.in_default.not-Cluster worlds m end may).1;
-  leads = λ worlds m end may. still m end _ (g.met.D.Disk.only_now c.args.disk.now) may.ready;
+  step = λ worlds began m end may. (answers_none _ c.args.command.now c.in_default.not-Cluster worlds began m end may).0;
+  ready = λ worlds began m end may. (answers_none _ c.args.command.now c.in_default.not-Cluster worlds began m end may).1;
+  leads = λ worlds began m end may. still m end began _ (g.met.D.Disk.only_now c.args.disk.now) may.ready.now;
   changes = only_none _;
   stepped = tt;
   cause = idle_cause _ _;
   disk = tt;
 })
+
+pub returns-in_err-step_cluster-in-Some-clause-leads : goal.returns-in_err-step_cluster-in-Some-clause-leads
+returns-in_err-step_cluster-in-Some-clause-leads g c = rw c.in-Some.is (known_leads c.in-Some.known _ _ c.args.command.now c.step_cluster.ensures.leads)
+
+pub returns-in_ok-step_cluster-in-Some-clause-leads : goal.returns-in_ok-step_cluster-in-Some-clause-leads
+returns-in_ok-step_cluster-in-Some-clause-leads g c = rw c.in-Some.is (known_leads c.in-Some.known _ _ c.args.command.now c.step_cluster.ensures.leads)
+
+pub returns-in_ok-step_cluster-in-Some-clause-ready : goal.returns-in_ok-step_cluster-in-Some-clause-ready
+returns-in_ok-step_cluster-in-Some-clause-ready g c = rw c.in-Some.is (known_ready c.in-Some.known _ _ c.args.command.now c.in_ok-step_cluster-in-Some.ensures.ready)

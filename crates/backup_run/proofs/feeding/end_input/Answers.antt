@@ -22,12 +22,12 @@ pub returns-then-said-clause-stopped : goal.returns-then-said-clause-stopped
 returns-then-said-clause-stopped g c =
     let said = c.in_ok-said.said in
     let wrote = c.in_ok-write_all.ensures.all ∙ ap (λ (t : List ℕ). told_before (g.K.Sink.held c.args.sink.now) t) c.deref.ensures.value in
-    end_malformed _ _ _ _ c.args.session.now said.text.items wrote (λ worlds m here. c.in_ok-said.ensures.malformed worlds m here c.if-said.true)
+    end_malformed _ _ _ _ c.args.session.now said.text.items wrote (λ worlds began m here. c.in_ok-said.ensures.malformed worlds began m here c.if-said.true)
     c.in_ok-said.ensures.leads c.in_ok-said.ensures.changes
 
 pub returns-clause-ended : goal.returns-clause-ended
 returns-clause-ended g c =
     let said = c.in_ok-said.said in
     let wrote = c.in_ok-write_all.ensures.all ∙ ap (λ (t : List ℕ). told_before (g.K.Sink.held c.args.sink.now) t) c.deref.ensures.value in
-    rw c.refused.ensures (end_done _ _ _ _ c.args.session.now c.end_input.new.self.refused said.text.items wrote (λ worlds m here. c.in_ok-said.ensures.whole worlds m here c.if-said.false)
+    rw c.refused.ensures (end_done _ _ _ _ c.args.session.now c.end_input.new.self.refused said.text.items wrote (λ worlds began m here. c.in_ok-said.ensures.whole worlds began m here c.if-said.false)
     c.in_ok-said.ensures.leads c.in_ok-said.ensures.changes)

@@ -22,12 +22,12 @@ pub returns-then-said-clause-ended : goal.returns-then-said-clause-ended
 returns-then-said-clause-ended g c =
     let said = c.in_ok-said.said in
     let wrote = c.in_ok-write_all.ensures.all ∙ ap (λ (t : List ℕ). told_before (g.K.Sink.held c.args.sink.now) t) c.deref.ensures.value in
-    ended_malformed _ _ _ _ c.args.session.now c.args.byte said.text.items wrote (λ worlds m more here. c.in_ok-said.ensures.malformed worlds m more here c.if-said.true)
+    ended_malformed _ _ _ _ c.args.session.now c.args.byte said.text.items wrote (λ worlds began m more here. c.in_ok-said.ensures.malformed worlds began m more here c.if-said.true)
     c.in_ok-said.ensures.leads c.in_ok-said.ensures.changes
 
 pub returns-clause-fed : goal.returns-clause-fed
 returns-clause-fed g c =
     let said = c.in_ok-said.said in
     let wrote = c.in_ok-write_all.ensures.all ∙ ap (λ (t : List ℕ). told_before (g.K.Sink.held c.args.sink.now) t) c.deref.ensures.value in
-    fed_byte _ _ _ _ c.args.session.now c.take_byte.new.self c.args.byte said.text.items wrote (λ worlds m more here. c.in_ok-said.ensures.goes_on worlds m more here c.if-said.false)
+    fed_byte _ _ _ _ c.args.session.now c.take_byte.new.self c.args.byte said.text.items wrote (λ worlds began m more here. c.in_ok-said.ensures.goes_on worlds began m more here c.if-said.false)
     (c.in_ok-said.ensures.cleared c.if-said.false) (c.in_ok-said.ensures.longer c.if-said.false) (c.in_ok-said.ensures.quiet c.if-said.false) c.in_ok-said.ensures.leads c.in_ok-said.ensures.changes

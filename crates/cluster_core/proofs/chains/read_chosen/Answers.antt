@@ -6,7 +6,7 @@ use Rattle.layer_manifest.specs.declared.manifest.TablePart.{TablePart}
 use Rattle.layer_manifest.specs.Manifests.{chunk_count}
 use Rattle.table_rows.specs.RowTables.{bytes_of}
 use Rattle.introduced_spans.specs.PlanLaws.{whole_at}
-use Rattle.backup_job.specs.Contents.{pieces_of}
+use Rattle.layer_objects.specs.Contents.{pieces_of}
 use Rattle.layer_objects.specs.Objects.{rows_of}
 use Rattle.layer_rows.specs.Reading.{AreEntriesOf, AreStoredAt}
 use Rattle.cluster_core.proofs.Stands.{place-got, standing-stored}

@@ -11,5 +11,5 @@ invariant-loop-d g l =
     OnlyReads (g.D.Disk.view l.fn.disk) (g.D.Disk.view l.disk)
     × ((g.D.Disk.view l.disk).faults ≡ (g.D.Disk.view l.fn.disk).faults)
     × AreTypedRows (take l.d-index l.chosen) l.rows.items
-    × ((tables : List Table) (r : records.Layer) (database : List ℕ) → Tells (g.D.Disk.view l.fn.disk) → IsStanding tables r l.layer l.m (g.D.Disk.view l.fn.disk).objects → l.chosen ≡ chosen_tables tables database r.end r
+    × ((tables : List Table) (r : records.LayerRecord) (database : List ℕ) → Tells (g.D.Disk.view l.fn.disk) → IsStanding tables r l.layer l.m (g.D.Disk.view l.fn.disk).objects → l.chosen ≡ chosen_tables tables database r.end r
     → map entries_in l.rows.items ≡ map (stored_rows tables r.end) (take l.d-index l.chosen))

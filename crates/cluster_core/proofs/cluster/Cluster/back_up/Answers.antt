@@ -1,11 +1,14 @@
-use Rattle.std.proofs.Common.{ap, ◌∙◌}
+use Rattle.std.proofs.Common.{Ok, ap, refl, ◌∙◌}
 use Rattle.cluster_core.specs.ClusterView.{ClusterState}
 use Rattle.cluster_core.specs.Backing.{with_backup, with_job}
-use Rattle.cluster_core.proofs.BackingUp.{done-runs, done-still, failed-still, fault-counts, fault-runs, few-chunks, memory-runs, own-changes, refused-runs, still-by}
+use Rattle.cluster_core.proofs.BackingUp.{done-runs, done-still, failed-still, fault-counts, fault-runs, few-chunks, may-run, memory-runs, own-changes, refused-runs, still-by}
 use Rattle.cluster_core.proofs.cluster.Cluster.back_up.Goals as goal
 
 pub returns-in_err-job-clause-step : goal.returns-in_err-job-clause-step
 returns-in_err-job-clause-step g c = refused-runs c.args.self.now c.args.collection.now c.args.scope c.args.end c.args.clock (g.D.Disk.view c.args.disk.now) c.from_residual.result c.in_err-job.field-0.0 c.from_residual.ensures.1 c.in_err-job.ensures.refused (g.met.D.Disk.only_now c.args.disk.now)
+
+pub run_to_end-requires : goal.run_to_end-requires
+run_to_end-requires g c = may-run c.args.self.now c.args.collection.now c.args.scope c.args.end c.args.clock c.requires.within.0 c.requires.within.1 c.in_ok-job.job c.in_ok-job.ensures.job c.store.result.now (c.store.ensures ∙ ap (λ (x : ClusterState). x.store) c.self.view_is) (Ok tt) c.in_ok-job.job (λ h keeps may. record { name = refl; manifest = refl }) c.requires.stands
 
 pub keep_backup-requires-clause-few : goal.keep_backup-requires-clause-few
 keep_backup-requires-clause-few g c = few-chunks c.args.self.now c.args.collection.now c.args.scope c.args.end c.args.clock c.requires.within.0 c.requires.within.1 c.in_ok-job.job c.in_ok-job.ensures.job c.store.result.now (c.store.ensures ∙ ap (λ (x : ClusterState). x.store) c.self.view_is) c.run_to_end.result c.run_to_end.new.self c.run_to_end.ensures.kept c.in-Ok.ensures.whole c.requires.stands

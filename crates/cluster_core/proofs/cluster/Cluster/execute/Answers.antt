@@ -3,7 +3,7 @@ use Rattle.machine_model.specs.Step.{step}
 use Rattle.cluster_core.specs.ClusterView.{ClusterState}
 use Rattle.cluster_core.specs.Standing.{MayStep}
 use Rattle.cluster_core.proofs.Here.{here-cause, here-halts, here-runs, here-still}
-use Rattle.cluster_core.proofs.Past.{steps-later}
+use Rattle.machine_model.proofs.Past.{steps-later}
 use Rattle.cluster_core.proofs.cluster.Cluster.execute.Goals as goal
 
 pub returns-in-Some-clause-step : goal.returns-in-Some-clause-step

@@ -1,4 +1,7 @@
-use Rattle.std.proofs.Common.{◌≡◌, ◌∙◌, ◌+◌, false, Some, ap, sym, subst}
+use Rattle.std.proofs.Common.{◌≡◌, ◌∙◌, ◌+◌, false, Some, refl, ap, sym, subst}
+use Rattle.outside_world.proofs.Runs.{only_none}
+use Rattle.collection_dir.proofs.StandsLaws.{manifests-same}
+use Rattle.machine_model.specs.Disks.{made_layers}
 use Rattle.machine_model.specs.Step.{step}
 use Rattle.machine_model.proofs.DiskLaws.{ready_leaves}
 use Rattle.cluster_core.specs.ClusterView.{ClusterState, view_of}
@@ -9,7 +12,7 @@ use Rattle.cluster_core.proofs.Replying.{may-recounted, stays-recounted, steps-r
 use Rattle.cluster_core.proofs.cluster.Cluster.step.Goals as goal
 
 pub returns-then-self-clause-step : goal.returns-then-self-clause-step
-returns-then-self-clause-step g c = λ worlds m end may. record { replied = tt; ready = tt; leaves = ready_leaves (Some m) (Some end) (g.D.Disk.view c.args.disk.now) (g.met.D.Disk.only_now c.args.disk.now) may.ready; idle = λ done. idle-none _ }
+returns-then-self-clause-step g c = λ worlds m end may. record { replied = tt; ready = tt; leaves = ready_leaves (Some m) (Some end) (g.D.Disk.view c.args.disk.now) (g.met.D.Disk.only_now c.args.disk.now) may.ready; changes = only_none _; ahead = λ w among later n is. refl; manifests = manifests-same (made_layers end) (g.D.Disk.view c.args.disk.now).objects (g.D.Disk.view c.args.disk.now).objects refl; idle = λ done. idle-none _ }
 
 pub reply-done-requires-clause-stands : goal.reply-done-requires-clause-stands
 reply-done-requires-clause-stands g c =
