@@ -1,5 +1,5 @@
 //! Merges of a chain, and their answers in words.
-ghost use Rattle.std.specs.Prelude.{◌≡◌, false};
+ghost use Rattle.std.specs.Prelude.{◌≡◌, Bool, false, OnOk};
 
 use crate::chain::Chain;
 use crate::source::{Refusal, Source};
@@ -27,38 +27,43 @@ enum Ending {
     Fault(MergeFault<Refusal>),
 }
 
-fn take_rows(
-    merge: &mut RowMerge,
-    source: &mut Source,
-    count: usize,
-    items: &mut Vec<Entry>,
-) -> Ending
-    requires { merge.old.failed ≡ false }
-{
-    for _ in 0..count {
-        match merge.next(source) {
-            Ok(Some(entry)) => {
-                if items.push(entry).is_err() {
-                    return Ending::Fault(MergeFault::Memory);
-                }
-            }
-            Ok(None) => return Ending::End,
-            Err(fault) => return Ending::Fault(fault),
-        }
-    }
-    Ending::Enough
+/// A merge, which gives one item after another.
+trait Merge {
+    ghost failed: { Self → Bool };
+
+    /// The next item; None at the end. It isn't asked of a merge that failed.
+    fn next_item(&mut self, source: &mut Source) -> Result<Option<Entry>, MergeFault<Refusal>>
+        requires { failed self.old ≡ false }
+        ensures { OnOk result (failed self.new ≡ false) };
 }
 
-fn take_entries(
-    merge: &mut EntryMerge,
+impl Merge for RowMerge {
+    ghost failed = { λ merge. merge.failed };
+
+    fn next_item(&mut self, source: &mut Source) -> Result<Option<Entry>, MergeFault<Refusal>> {
+        self.next(source)
+    }
+}
+
+impl Merge for EntryMerge {
+    ghost failed = { λ merge. merge.failed };
+
+    fn next_item(&mut self, source: &mut Source) -> Result<Option<Entry>, MergeFault<Refusal>> {
+        self.next(source)
+    }
+}
+
+/// Takes so many items, or those up to the end or to a fault.
+fn take_items<M: Merge>(
+    merge: &mut M,
     source: &mut Source,
     count: usize,
     items: &mut Vec<Entry>,
 ) -> Ending
-    requires { merge.old.failed ≡ false }
+    requires { M.failed merge.old ≡ false }
 {
     for _ in 0..count {
-        match merge.next(source) {
+        match merge.next_item(source) {
             Ok(Some(entry)) => {
                 if items.push(entry).is_err() {
                     return Ending::Fault(MergeFault::Memory);
@@ -128,7 +133,7 @@ fn put_rows(alloc: Global, chain: &mut Chain, line: &str, out: &mut String) -> R
     let mut merge = RowMerge::new(alloc, TABLE, &KINDS, &chain.parts, t)?;
     let mut items = Vec::new(alloc);
     let count = count_of(word(line, 2));
-    let ending = take_rows(&mut merge, &mut chain.source, count, &mut items);
+    let ending = take_items(&mut merge, &mut chain.source, count, &mut items);
     put_items(&items, out)?;
     put_ending(&ending, out)
 }
@@ -153,7 +158,7 @@ fn put_within(
         hi.as_slice(),
     )?;
     let mut items = Vec::new(alloc);
-    let ending = take_rows(&mut merge, &mut chain.source, ITEMS_MAX, &mut items);
+    let ending = take_items(&mut merge, &mut chain.source, ITEMS_MAX, &mut items);
     put_items(&items, out)?;
     put_ending(&ending, out)
 }
@@ -170,7 +175,7 @@ fn put_merged(
     let mut merge = EntryMerge::new(alloc, TABLE, &KINDS, &chain.parts, from, to)?;
     let mut items = Vec::new(alloc);
     let count = count_of(word(line, 3));
-    let ending = take_entries(&mut merge, &mut chain.source, count, &mut items);
+    let ending = take_items(&mut merge, &mut chain.source, count, &mut items);
     put_items(&items, out)?;
     put_ending(&ending, out)
 }
