@@ -1,5 +1,5 @@
 //! The entries of the layer without history that joins the layers of an interval.
-ghost use Rattle.std.specs.Prelude.{◌≡◌, true, false, [], Some, IfOk, IfErr, IfSome, OnOk, List};
+ghost use Rattle.std.specs.Prelude.{◌≡◌, true, false, [], Some, IfOk, IfErr, IfSome, OnErr, OnOk, List};
 ghost use Rattle.std.specs.List.{list_any};
 ghost use Rattle.mvcc_keys.specs.declared.entries.Entry.{Entry};
 ghost use Rattle.chunk_file.specs.Entries.{is_range};
@@ -162,6 +162,7 @@ impl EntryMerge {
         ensures table { self.new.walk.table ≡ self.old.walk.table }
         ensures kinds { self.new.walk.kinds ≡ self.old.walk.kinds }
         ensures failed { OnOk result (self.new.failed ≡ false) }
+        ensures ended { OnErr result (self.new.failed ≡ true) }
         ensures entries { (w : World) (all : List Entry) → Gives C.came self.old.walk.table self.old.walk.kinds w chunks.old → MergesOver w all self.old.walk → IfOk result (λ r. Gave r (entries_left all self.old) (entries_left all self.new) × MergesOver w all self.new.walk) }
     {
         match self.next_entry(chunks) {

@@ -1,5 +1,5 @@
 //! The rows of a table as of a time, out of the layers of a chain.
-ghost use Rattle.std.specs.Prelude.{◌≡◌, ◌+◌, true, false, [], None, IfOk, IfErr, IfSome, OnOk, List};
+ghost use Rattle.std.specs.Prelude.{◌≡◌, ◌+◌, true, false, [], None, IfOk, IfErr, IfSome, OnErr, OnOk, List};
 ghost use Rattle.mvcc_keys.specs.declared.entries.Entry.{Entry};
 ghost use Rattle.layer_merge.specs.Loads.{Gives, IsOthers, Load, World};
 ghost use Rattle.layer_merge.specs.Within.{AreBounded, keys_within, rows_within, wanted_entries, wanted_loads};
@@ -100,6 +100,7 @@ impl RowMerge {
         ensures table { self.new.walk.table ≡ self.old.walk.table }
         ensures kinds { self.new.walk.kinds ≡ self.old.walk.kinds }
         ensures failed { OnOk result (self.new.failed ≡ false) }
+        ensures ended { OnErr result (self.new.failed ≡ true) }
         ensures rows { (w : World) (all : List Entry) → Gives C.came self.old.walk.table self.old.walk.kinds w chunks.old → MergesOver w all self.old.walk → IfOk result (λ r. Gave r (rows_of all self.old.walk) (rows_of all self.new.walk) × MergesOver w all self.new.walk) }
     {
         match self.walk.next_row(chunks) {
