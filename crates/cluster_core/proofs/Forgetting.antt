@@ -54,10 +54,10 @@ use Rattle.cluster_core.specs.Standing.{AreAhead, HasBackups, IsOwnBackup, Keeps
 use Rattle.cluster_core.specs.Backing.{AreLayersFrom, IsSourceFault}
 use Rattle.cluster_core.proofs.BackingUp.{halted-runs, ready-over}
 use Rattle.cluster_core.proofs.Kept.{keeps-as}
-use Rattle.machine_model.proofs.Lists.{find-has}
+use Rattle.machine_model.proofs.Lists.{got-left, find-has}
 use Rattle.cluster_core.proofs.Others.{IsSameOf, still-gone, still-there}
 use Rattle.cluster_core.proofs.Sources.{between-is, layers-are, others-map, subdirectories-in}
-use Rattle.cluster_core.proofs.Storing.{IsPast, got-first, has-place, own-place, past-backup, same-backups}
+use Rattle.cluster_core.proofs.Storing.{IsPast, has-place, own-place, past-backup, same-backups}
 
 -- ---- names of layers
 
@@ -212,7 +212,7 @@ module _ (c : ClusterState) (source : Src) (collection : List ℕ) (start end : 
           is-started =
               let i = place-of tables b in
               let o = own tables b in
-              is-made to i.0 r (ap (λ xs. slice_get xs i.0) later.jobs ∙ got-first c.jobs later.more i.0 (Backup r) i.1) (record {
+              is-made to i.0 r (ap (λ xs. slice_get xs i.0) later.jobs ∙ got-left c.jobs later.more i.0 (Backup r) i.1) (record {
                 name = own-past.named;
                 own = ap (λ (n : LayerName). n.cluster) (objects-name ends r) ∙ (o.cluster ∙ sym later.name);
                 number = (let a = own-past.number in let e = o.number in omega (arith, a, e));

@@ -40,10 +40,9 @@ use Rattle.span_export.specs.declared.plan.Plan.TheVariants.{Whole}
 use Rattle.history_model.specs.Histories.{Table}
 use Rattle.history_model.specs.Layers.{LayerRecord}
 use Rattle.layer_objects.specs.Objects.{by_id, rows_of, table_facts}
-use Rattle.layer_rows.proofs.Exported.{scans-stored}
-use Rattle.layer_rows.proofs.Stored.{plan-ordered}
+use Rattle.restore_rows.proofs.Exported.{plan-ordered, scans-stored}
 use Rattle.machine_model.specs.Restores.{chosen_tables, rows_to_restore}
-use Rattle.cluster_core.proofs.Stands.{IsKnown, chosen-known}
+use Rattle.cluster_core.proofs.Chosen.{IsKnown, chosen-known}
 use Rattle.history_model.specs.Rows.{Cells, Key, RowFact, RowItem}
 use Rattle.history_model.specs.RowTests.{columns_len}
 use Rattle.table_rows.specs.RowTables.{AreRowFacts, IsCells, bytes_of}
@@ -52,8 +51,8 @@ use Rattle.table_rows.proofs.KeySizes.{key-len}
 use Rattle.version_store.proofs.Bytes.{bytes_order}
 use Rattle.chunk_file.specs.Entries.{IsStored, are_ordered, comes_before, is_entry, is_row_key}
 use Rattle.layer_objects.specs.Storable.{AreStorable, IsSized}
-use Rattle.layer_rows.specs.Putting.{AreItems, DifferInKey, IsItem, stored_put}
-use Rattle.layer_rows.specs.Reading.{AreEntriesOf}
+use Rattle.layer_chains.specs.Chains.{stored_put}
+use Rattle.restore_rows.specs.Putting.{AreItems, DifferInKey, IsItem}
 use Rattle.cluster_core.specs.Chains.{AreRowsOf, HasBytes, IsRowItem, are_rows, is_above, is_row, is_short, stored_rows}
 use Rattle.list_laws.proofs.Orderings.{lt-Less}
 
@@ -160,9 +159,9 @@ module _ (id : ℕ) (kinds : List Kind) where
       record { items = own.0 ∷ more.items; are = ap₂ (λ (y : Entry) (ys : List Entry). y ∷ ys) own.1 more.are; each = (own.2, more.each) }
 
   -- entries of a table that pass the test come from rows
-  pub rows-read : id < 2 ^ 32 → (entries : List Entry) → AreEntriesOf id kinds entries → AllByRecursion HasBytes entries → are_rows None entries ≡ true → (items : List RowItem) × AreRowsOf id kinds entries items
+  pub rows-read : id < 2 ^ 32 → (entries : List Entry) → AllByRecursion (λ (e : Entry). (is_entry id kinds e ≡ true) × IsStored e) entries → AllByRecursion HasBytes entries → are_rows None entries ≡ true → (items : List RowItem) × AreRowsOf id kinds entries items
   rows-read small entries typed bytes e =
-      let read = all-read small entries None typed.each bytes e in
+      let read = all-read small entries None typed bytes e in
       (read.items, record { are = read.are; each = read.each; differ = differ-all read.items None (ap (are_rows None) (sym read.are) ∙ e) })
 
   same-key : id < 2 ^ 32 → (a b : Key) → IsKey kinds a → IsKey kinds b → slice_cmp nat_cmp (row_key id kinds a) (row_key id kinds b) ≡ Equal → a ≡ b
@@ -215,9 +214,9 @@ module _ (id : ℕ) (kinds : List Kind) where
 
 -- ---- chosen tables
 
-module _ (tables : List Table) (r : LayerRecord) (storable : AreStorable tables) (database : List ℕ) (t : Time) (d : Schema) (chosen : Has d (chosen_tables tables database t r)) (small : d.id < 2 ^ 32) where
-  known : IsKnown tables r storable d
-  known = chosen-known tables r storable database t d chosen
+module _ (tables : List Table) (storable : AreStorable tables) (r : LayerRecord) (database : List ℕ) (t : Time) (d : Schema) (chosen : Has d (chosen_tables tables database t r)) (small : d.id < 2 ^ 32) where
+  known : IsKnown tables storable d
+  known = chosen-known tables storable r database t d chosen
 
   abbrev rows : List RowItem
   rows = rows_to_restore tables t d

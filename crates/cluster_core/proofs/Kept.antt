@@ -30,6 +30,7 @@ use Rattle.machine_model.specs.TableRows.{extended, raised}
 use Rattle.cluster_core.specs.ClusterView.{ClusterState}
 use Rattle.layer_objects.specs.Objects.{table_kinds, kinds_of, table_facts, table_threshold, rows_of, by_id}
 use Rattle.cluster_core.specs.Standing.{IsOwn, IsOrderly, Keeps, StandsFor}
+use Rattle.machine_model.proofs.Orders.{and-true, ascend-more, not-none}
 use Rattle.machine_model.proofs.Lists.{got-set, got-set_other, map-set, set-same, got-push, find-has}
 use Rattle.cluster_core.proofs.Tables.{by_id-at, rows-same, rows-more, rows-raised, rows-new}
 use Rattle.list_laws.proofs.Options.{some-is}
@@ -49,6 +50,7 @@ later s t id table le o = record {
   id_is = o.id_is;
   schemas = o.schemas;
   facts = λ f has. le-trans (date f) s t (o.facts f has) le;
+  after = o.after;
   threshold = le-trans table.threshold s t o.threshold le;
   sized = o.sized;
   dated = λ d has. le-trans d.modified s t (o.dated d has) le;
@@ -64,23 +66,6 @@ keeps-as old new tables k schemas store events le = record {
   events = k.events ∙ sym events;
   orderly = λ i table got. later old.clock new.clock (100 + i) table le (k.orderly i table got);
 }
-
--- ---- dates
-
-and-true : (a : Bool) → a ≡ true → (a && true) ≡ true
-and-true true e = refl
-and-true false e = cc e
-
-no-push : {X : Type 0} (xs : List X) (x : X) → xs ++ x ∷ [] ≡ [] → ⊥
-no-push [] x e = cc e
-no-push (y ∷ ys) x e = cc e
-
--- one more descriptor, after a time that none is after
-ascend-more : (first last : Time) (ds : List Schema) (e : Schema) → time_le first last ≡ true → ascend_after first ds ≡ true → ((d : Schema) → Has d ds → time_le d.modified last ≡ true) → time_lt last e.modified ≡ true → ascend_after first (ds ++ e ∷ []) ≡ true
-ascend-more first last [] e le all dated after = and-true (time_lt first e.modified) (le-lt-lt first last e.modified le after)
-ascend-more first last (d ∷ ds) e le all dated after =
-    let p = both_true (time_lt first d.modified) (ascend_after d.modified ds) all in
-    rw p.0 (ascend-more d.modified last ds e (dated d (inl refl)) p.1 (λ x has. dated x (inr has)) after)
 
 -- ---- one table changes
 
@@ -130,6 +115,7 @@ keeps-more c store at tables i t fs k got lt dated sized has =
       id_is = o.id_is;
       schemas = o.schemas;
       facts = λ f is. elim (has-append_cases f t.facts fs is) [ inl old ↦ le-trans (date f) c.clock at (o.facts f old) le | inr new ↦ subst (λ (x : Time). time_le x at ≡ true) (sym (dated f new)) (le-refl at) ];
+      after = λ f is. elim (has-append_cases f t.facts fs is) [ inl old ↦ o.after f old | inr new ↦ subst (λ (x : Time). time_lt zero_time x ≡ true) (sym (dated f new)) (le-lt-lt zero_time c.clock at (zero-le c.clock) lt) ];
       threshold = le-trans t.threshold c.clock at o.threshold le;
       sized = λ f is. elim (has-append_cases f t.facts fs is) [ inl old ↦ o.sized f old | inr new ↦ sized f new ];
       dated = λ d is. le-trans d.modified c.clock at (o.dated d is) le;
@@ -182,11 +168,12 @@ keeps-described c at tables i t d e k got lt has id kinds on =
         | inr new ↦ last x new
       ];
       facts = λ f is. le-trans (date f) c.clock at (o.facts f is) le;
+      after = o.after;
       threshold = le-trans t.threshold c.clock at o.threshold le;
       sized = λ f is. subst (λ (ks : List Kind). IsSized ks f) (sym first) (o.sized f is);
       dated = λ x is. elim (has-append_cases x t.descriptors (e ∷ []) is) [ inl old ↦ le-trans x.modified c.clock at (o.dated x old) le | inr new ↦ now x new ];
       ascend = ascend-more zero_time c.clock t.descriptors e (zero-le c.clock) o.ascend o.dated (subst (λ (x : Time). time_lt c.clock x ≡ true) (sym on) lt);
-      begun = λ none. absurd (no-push t.descriptors e none);
+      begun = λ none. absurd (not-none t.descriptors e none);
     })
   where
     now : (x : Schema) → Has x (e ∷ []) → time_le x.modified at ≡ true
@@ -212,7 +199,7 @@ keeps-raised c store g tables i t k got past has =
     (subst (HasRows (λ h. KeepsAll store.tables.entries h)) (sym (rows-raised tables i t u g got refl refl refl)) has)
     (same-accepted tables i 0 t u got (omega arith) ∙ (let zero : accepted tables + 0 ≡ accepted tables = omega arith in zero ∙ k.events))
     (le-refl c.clock)
-    (record { id_is = o.id_is; schemas = o.schemas; facts = o.facts; threshold = by (time_lt t.threshold g) o.threshold; sized = o.sized; dated = o.dated; ascend = o.ascend; begun = o.begun })
+    (record { id_is = o.id_is; schemas = o.schemas; facts = o.facts; after = o.after; threshold = by (time_lt t.threshold g) o.threshold; sized = o.sized; dated = o.dated; ascend = o.ascend; begun = o.begun })
   where
     by : (b : Bool) → time_le t.threshold c.clock ≡ true → time_le (cond b g t.threshold) c.clock ≡ true
     by true le = grind (arith, nat_tests, past)
@@ -249,6 +236,7 @@ keeps-new c at tables d k lt id on =
       id_is = id;
       schemas = own;
       facts = λ f none. absurd none;
+      after = λ f none. absurd none;
       threshold = zero-le at;
       sized = λ f none. absurd none;
       dated = now;

@@ -24,7 +24,8 @@ pub mod Restorings
 pub mod Covers
 pub mod Choosing
 pub mod Ascending
-pub mod Stands
+pub mod Chosen
+pub mod Mergeable
 pub mod Items
 pub mod Rereading
 pub mod Redone

@@ -1,7 +1,6 @@
 -- RESTORE DATABASE from a layer in the book, over a ready disk and over every disk.
 use Rattle.std.proofs.Common.{◌≡◌, ◌⊎◌, inl, inr, ⊎_elim, ℕ, ◌+◌, ◌≤◌, ◌<◌, ◌^◌, false, nat_lt, length, List, [], ◌∷◌, ◌++◌, map, Option, Some, None, option_and_then, refl, sym, ap, ap₂, subst, ◌∙◌, arith, Result, Ok, Err}
 use Rattle.std.specs.List.{AllByRecursion}
-use Rattle.std.proofs.lemmas.List.Sums.{sum_by-cons}
 use Rattle.std.specs.Global.{Vec}
 use Rattle.std.specs.Prelude.{IfErr, IfOk, OnOk}
 use Rattle.mvcc_keys.specs.declared.entries.Entry.{Entry}
@@ -26,8 +25,8 @@ use Rattle.layer_manifest.specs.declared.manifest.Manifest.{Manifest}
 use Rattle.layer_model.specs.declared.names.LayerName.{LayerName}
 use Rattle.layer_model.specs.Layers as stored
 use Rattle.layer_objects.specs.Objects.{objects_of}
-use Rattle.id_remap.specs.Remapping.{new_ids, remap_fault, remapped_schema}
-use Rattle.id_remap.specs.declared.targets.Target.{Target}
+use Rattle.layer_chains.specs.Chains.{IsShown}
+use Rattle.id_remap.specs.Remapping.{new_ids, remap_fault}
 use Rattle.id_remap.specs.declared.targets.Target.TheVariants as target
 use Rattle.reply_texts.specs.declared.refusals.Refusal.{Refusal}
 use Rattle.reply_texts.specs.declared.refusals.Refusal.TheVariants.{NothingToRestore, TooManyEvents}
@@ -42,19 +41,20 @@ use Rattle.cluster_core.specs.declared.halts.Halt.TheVariants.{Refused, Disk, Me
 use Rattle.cluster_core.specs.declared.chains.Chain.{Chain}
 use Rattle.cluster_core.specs.ClusterView.{ClusterState, record_of}
 use Rattle.cluster_core.specs.Standing.{HasBackups, Keeps, MayStep, Runs, StandsFor, machine_of}
-use Rattle.cluster_core.specs.Chains.{IsOneLayer, IsStanding}
+use Rattle.cluster_core.specs.Chains.{IsOneLayer, IsStandingChain}
 use Rattle.cluster_core.specs.Chains.{entries_in, stored_rows}
 use Rattle.cluster_core.specs.declared.restores.Plan.{Plan}
-use Rattle.cluster_core.specs.Restoring.{AreRowsOfEach, count_rows, entries_of, made_table, made_tables}
+use Rattle.cluster_core.specs.Restoring.{AreRowsOfEach, count_rows, entries_of, made_tables}
 use Rattle.cluster_core.proofs.BackingUp.{idle-same}
 use Rattle.cluster_core.proofs.Redone.{KeptBy, by-ids, kept-stands}
 use Rattle.cluster_core.proofs.Restored.{all-restored}
 use Rattle.cluster_core.proofs.Restorings.{count-is}
 use Rattle.cluster_core.specs.Restores.{AreTested, EndsBy, IsPlanned, refusal_of_chosen, restored_by, with_restore, room_test, shown_tables}
+use Rattle.cluster_core.proofs.Chosen.{all-shown}
 use Rattle.cluster_core.proofs.Covers.{booked-full}
 use Rattle.cluster_core.proofs.Others.{final}
 use Rattle.machine_model.proofs.Past.{chosen-later, finding-later, later-then, next-later}
-use Rattle.cluster_core.proofs.Rereading.{chosen-fresh, items-stored, over, rows-fresh, shown-chosen, standing, unraised}
+use Rattle.cluster_core.proofs.Rereading.{chain-stands, items-stored, over, shown-chosen}
 
 -- ---- a disk that is only read
 
@@ -77,22 +77,6 @@ leaves-read m to a b only reads ready =
     let begun : Run P P a a = started ready.known (only ready.known) (ready_images (Some m) (Some to) a ready) (λ image p. p) in
     let run : Run P P a b = run_read begun reads (λ image p. p) in
     run.so_far
-
--- ---- counts
-
-count-fresh : (tables : List Table) (t : Time) (chosen : List Schema) → count_to_restore (unraised tables) t chosen ≡ count_to_restore tables t chosen
-count-fresh tables t [] = refl
-count-fresh tables t (d ∷ ds) =
-    let a = sum_by-cons (λ (x : Schema). length (rows_to_restore (unraised tables) t x)) d ds in
-    let b = sum_by-cons (λ (x : Schema). length (rows_to_restore tables t x)) d ds in
-    let n = ap length (rows-fresh tables t d) in
-    let more = count-fresh tables t ds in
-    omega (arith, a, b, n, more)
-
-restored-fresh : (tables : List Table) (ids : List (ℕ × ℕ)) (to : Target) (t made published : Time) (chosen : List Schema) → map (restored_table (unraised tables) ids to t made published) chosen ≡ map (restored_table tables ids to t made published) chosen
-restored-fresh tables ids to t made published [] = refl
-restored-fresh tables ids to t made published (d ∷ ds) =
-    ap₂ (λ (y : Table) (ys : List Table). y ∷ ys) (ap (made_table made published (remapped_schema ids to made d)) (rows-fresh tables t d)) (restored-fresh tables ids to t made published ds)
 
 -- ---- jobs
 
@@ -148,24 +132,23 @@ module _ (c : ClusterState) (database new : List ℕ) (x : Chain) (layer : Layer
       pub chosen-is : shown ≡ chosen_tables tables database x.time r
       chosen-is =
           ap (λ t. shown_tables database t layer.1) ends
-          ∙ (shown-chosen c tables k b proper few events layer own database ∙ (chosen-fresh tables database r.end r ∙ ap (λ t. chosen_tables tables database t r) (sym ends)))
+          ∙ (shown-chosen c tables k b proper few events layer own database ∙ ap (λ t. chosen_tables tables database t r) (sym ends))
 
       catalog-is : catalog_of (machine_of c tables) ≡ c.schemas
       catalog-is = ap (λ (ts : List (List Schema)). record c.schemas { tables = ts }) k.schemas
 
       abbrev tests : Option Refusal
-      tests = refusal_of_chosen c.schemas new made shown (room_test c (count_to_restore (unraised tables) r.end shown) ∷ [])
+      tests = refusal_of_chosen c.schemas new made shown (room_test c (count_to_restore tables x.time shown) ∷ [])
 
       -- the tests of the meaning are those of the cluster
       pub tests-are : first_refusal (nothing_refusal (chosen_tables tables database x.time r)
           ∷ option_and_then refusal_of_remap (remap_fault (catalog_of (machine_of c tables)) (chosen_tables tables database x.time r) (target.Database new) false made)
           ∷ room_refusal (machine_of c tables) (count_to_restore tables x.time (chosen_tables tables database x.time r)) ∷ []) ≡ tests
       tests-are =
-          let count : count_to_restore tables x.time (chosen_tables tables database x.time r) ≡ count_to_restore (unraised tables) r.end shown =
-          ap₂ (count_to_restore tables) ends (sym chosen-is) ∙ sym (count-fresh tables r.end shown) in
+          let count : count_to_restore tables x.time (chosen_tables tables database x.time r) ≡ count_to_restore tables x.time shown = ap (count_to_restore tables x.time) (sym chosen-is) in
           ap (λ (s : Schemas). refusal_of_chosen s new made (chosen_tables tables database x.time r) (room_refusal (machine_of c tables) (count_to_restore tables x.time (chosen_tables tables database x.time r)) ∷ [])) catalog-is
           ∙ (ap₂ (λ (n e : ℕ). refusal_of_chosen c.schemas new made (chosen_tables tables database x.time r) (refusal_if (nat_lt c.most_events (e + n)) TooManyEvents ∷ [])) count k.events
-          ∙ ap (λ (ds : List Schema). refusal_of_chosen c.schemas new made ds (room_test c (count_to_restore (unraised tables) r.end shown) ∷ [])) (sym chosen-is))
+          ∙ ap (λ (ds : List Schema). refusal_of_chosen c.schemas new made ds (room_test c (count_to_restore tables x.time shown) ∷ [])) (sym chosen-is))
 
       abbrev change : List Schema → Stepped
       change chosen =
@@ -190,13 +173,16 @@ module _ (c : ClusterState) (database new : List ℕ) (x : Chain) (layer : Layer
       ready : IsReady (Some (machine_of c s.tables)) (Some to) first
       ready = subst (λ (y : Machine). IsReady (Some y) (Some to) first) s.machine_is may.ready
 
-      pub stands-there : IsStanding (unraised s.tables) r layer.0 layer.1 first.objects
+      layers-are : x.layers.items ≡ layer ∷ []
+      layers-are = one.layers ∙ ap (λ (p : LayerName × Manifest). p ∷ []) layer-is
+
+      pub stands-there : IsStandingChain s.tables r.scope (r ∷ []) x.layers.items x.time first.objects
       stands-there =
           let is : objects_of to.history.tables r ≡ objects_of s.tables r = final c s.tables to.history.tables c.clock r s.keeps later.tables (booked-full c s.tables s.backups layer own) (over c s.tables s.keeps s.backups proper few events layer own) in
-          standing c s.tables s.keeps s.backups proper few events layer own first.objects (subst (λ (w : stored.LayerObjects). IsThere w first.objects) is (ready.kept.there r (has-map record_of layer c.book.layers own)))
+          chain-stands c s.tables s.keeps s.backups proper few events layer own x.layers.items x.time first.objects layers-are ends (subst (λ (w : stored.LayerObjects). IsThere w first.objects) is (ready.kept.there r (has-map record_of layer c.book.layers own)))
 
-      pub shown-is : shown ≡ chosen_tables (unraised s.tables) database r.end r
-      shown-is = chosen-is s.tables s.keeps s.backups ∙ (ap (λ t. chosen_tables s.tables database t r) ends ∙ sym (chosen-fresh s.tables database r.end r))
+      pub shown-there : AllByRecursion (IsShown s.tables r.scope x.time) shown
+      shown-there = subst (AllByRecursion (IsShown s.tables r.scope x.time)) (sym (chosen-is s.tables s.keeps s.backups)) (all-shown s.tables (λ i table got. (stands-there.mergeable i table got).storable) r database x.time)
 
       -- a test refuses it, the disk failed, or memory was wanting
       pub ended-runs : (IsKnown first → (image : Objects) → first.left_since first.moment image → IsImage first image) → OnlyReads first now → (e : Halt) → EndsBy e (tests s.tables s.keeps s.backups) → Runs c (means m) to (Err e) first now
@@ -214,9 +200,9 @@ module _ (c : ClusterState) (database new : List ℕ) (x : Chain) (layer : Layer
       ended-runs only reads Disk by = record { responds = tt; ready = tt; leaves = leaves-read m to first now only reads may.ready; changes = only_read reads; ahead = λ w among later n is. ap (λ (o : Objects). at o n) (reads.content may.ready.known.tells).objects; manifests = manifests-same (made_layers to) first.objects now.objects (reads.content may.ready.known.tells).objects; idle = λ done. idle-same first now (reads.content may.ready.known.tells) }
       ended-runs only reads Memory by = record { responds = tt; ready = tt; leaves = leaves-read m to first now only reads may.ready; changes = only_read reads; ahead = λ w among later n is. ap (λ (o : Objects). at o n) (reads.content may.ready.known.tells).objects; manifests = manifests-same (made_layers to) first.objects now.objects (reads.content may.ready.known.tells).objects; idle = λ done. idle-same first now (reads.content may.ready.known.tells) }
 
-      module _ (p : Plan) (planned : IsPlanned c.schemas new made shown p) (vs : List (Vec Entry)) (tested : AreTested shown vs) (time : IsTime made) (read : map entries_in vs ≡ map (stored_rows (unraised s.tables) r.end) shown) (room : room_test c (count_rows (entries_of vs)) ≡ None) where
-        count : count_rows (entries_of vs) ≡ count_to_restore (unraised s.tables) r.end shown
-        count = count-is (unraised s.tables) r.end shown vs read
+      module _ (p : Plan) (planned : IsPlanned c.schemas new made shown p) (vs : List (Vec Entry)) (tested : AreTested shown vs) (time : IsTime made) (read : map entries_in vs ≡ map (stored_rows s.tables x.time) shown) (room : room_test c (count_rows (entries_of vs)) ≡ None) where
+        count : count_rows (entries_of vs) ≡ count_to_restore s.tables x.time shown
+        count = count-is s.tables x.time shown vs read
 
         passed : tests s.tables s.keeps s.backups ≡ None
         passed = rw (planned.some, planned.passed, sym count, room) refl
@@ -224,27 +210,24 @@ module _ (c : ClusterState) (database new : List ℕ) (x : Chain) (layer : Layer
         is-done : means (machine_of c s.tables) ≡ change s.tables s.keeps s.backups shown
         is-done = done-by s.tables s.keeps s.backups passed
 
-        abbrev fresh-items : List (List RowItem)
-        fresh-items = map (rows_to_restore (unraised s.tables) r.end) shown
+        abbrev items : List (List RowItem)
+        items = map (rows_to_restore s.tables x.time) shown
 
-        rows-are : AreRowsOfEach made shown (entries_of vs) fresh-items
-        rows-are = items-stored made time (unraised s.tables) r stands-there.storable database r.end shown vs (λ d has. subst (Has d) shown-is has) tested read
+        rows-are : AreRowsOfEach made shown (entries_of vs) items
+        rows-are = items-stored made time s.tables (λ i table got. (stands-there.mergeable i table got).storable) r database x.time shown vs (λ d has. subst (Has d) (chosen-is s.tables s.keeps s.backups) has) tested read
 
-        made-are : made_tables made published p.tables.items fresh-items ≡ map (restored_table s.tables (new_ids (catalog_of (machine_of c s.tables)) shown) (target.Database new) x.time made published) shown
+        made-are : made_tables made published p.tables.items items ≡ map (restored_table s.tables (new_ids (catalog_of (machine_of c s.tables)) shown) (target.Database new) x.time made published) shown
         made-are =
             let ids = new_ids c.schemas shown in
             let goal = target.Database new in
-            ap (λ (ss : List Schema). made_tables made published ss fresh-items) planned.tables
-            ∙ (all-restored ids goal made published r.end (unraised s.tables) shown
-            ∙ (restored-fresh s.tables ids goal r.end made published shown
-            ∙ (ap (λ (t : Time). map (restored_table s.tables ids goal t made published) shown) (sym ends)
-            ∙ ap (λ (y : Schemas). map (restored_table s.tables (new_ids y shown) goal x.time made published) shown) (sym (catalog-is s.tables s.keeps s.backups)))))
+            ap (λ (ss : List Schema). made_tables made published ss items) planned.tables
+            ∙ (all-restored ids goal made published x.time s.tables shown
+            ∙ ap (λ (y : Schemas). map (restored_table s.tables (new_ids y shown) goal x.time made published) shown) (sym (catalog-is s.tables s.keeps s.backups)))
 
         answer-is : (k : ℕ) → k ≡ count_rows (entries_of vs) → restore_done (machine_of c s.tables) (target.Database new) x.time made (map record_of x.layers.items) shown ≡ restored_by c new p.ids x.time made k x.layers.items p.chosen.items
         answer-is k k-is =
-            let rows : count_to_restore s.tables x.time shown ≡ k = ap (λ (t : Time). count_to_restore s.tables t shown) ends ∙ (sym (count-fresh s.tables r.end shown) ∙ (sym count ∙ sym k-is)) in
             let ids : new_ids (catalog_of (machine_of c s.tables)) shown ≡ p.ids = ap (λ (y : Schemas). new_ids y shown) (catalog-is s.tables s.keeps s.backups) ∙ sym planned.ids in
-            ap₂ (λ (n : ℕ) (ts : List RestoredTable). RestoreDone (length c.jobs + 1) x.time made n (map span_of (map record_of x.layers.items)) ts) rows
+            ap₂ (λ (n : ℕ) (ts : List RestoredTable). RestoreDone (length c.jobs + 1) x.time made n (map span_of (map record_of x.layers.items)) ts) (sym count ∙ sym k-is)
             (ap₂ (λ (is : List (ℕ × ℕ)) (ds : List Schema). map (restored_as is (target.Database new)) ds) ids (sym planned.chosen_is))
 
         pub done-runs : (res : Result Answer Halt) (n : ClusterState) → KeptBy c n new made published p vs res → OnOk res (n ≡ with_restore c new published (count_rows (entries_of vs)) n.schemas.tables n.store)
@@ -252,11 +235,11 @@ module _ (c : ClusterState) (database new : List ℕ) (x : Chain) (layer : Layer
             → (IsKnown first → (image : Objects) → first.left_since first.moment image → IsImage first image) → OnlyReads first now → Runs n (means m) to res first now
         done-runs (Err e) n kept rest k k-is answer fault only reads = subst (λ (y : Halt). Runs n (means m) to (Err y) first now) (sym fault) (record { responds = tt; ready = tt; leaves = leaves-read m to first now only reads may.ready; changes = only_read reads; ahead = λ w among later n is. ap (λ (o : Objects). at o n) (reads.content may.ready.known.tells).objects; manifests = manifests-same (made_layers to) first.objects now.objects (reads.content may.ready.known.tells).objects; idle = λ done. idle-same first now (reads.content may.ready.known.tells) })
         done-runs (Ok a) n kept rest k k-is answer fault only reads =
-            let keeps = kept s.tables shown fresh-items s.keeps (by-ids c new made published first-is second-is shown p planned vs n) planned.in_order rows-are in
-            let stands = kept-stands c new made published first-is second-is shown p planned vs n s.tables s.keeps s.backups fresh-items keeps (count_rows (entries_of vs)) rest in
+            let keeps = kept s.tables shown items s.keeps (by-ids c new made published first-is second-is shown p planned vs n) planned.in_order rows-are in
+            let stands = kept-stands c new made published first-is second-is shown p planned vs n s.tables s.keeps s.backups items keeps (count_rows (entries_of vs)) rest in
             let is : means m ≡ change s.tables s.keeps s.backups shown = ap means s.machine_is ∙ is-done in
-            let machine-is : machine_of n (s.tables ++ made_tables made published p.tables.items fresh-items) ≡ (change s.tables s.keeps s.backups shown).machine =
-            ap (λ (y : ClusterState). machine_of y (s.tables ++ made_tables made published p.tables.items fresh-items)) rest
+            let machine-is : machine_of n (s.tables ++ made_tables made published p.tables.items items) ≡ (change s.tables s.keeps s.backups shown).machine =
+            ap (λ (y : ClusterState). machine_of y (s.tables ++ made_tables made published p.tables.items items)) rest
             ∙ ap (λ (ts : List Table). with_restored (machine_of c s.tables) new ts published) made-are in
             let t : StandsFor n (means m).machine = subst (StandsFor n) (machine-is ∙ sym (ap (λ (y : Stepped). y.machine) is)) stands in
             record {

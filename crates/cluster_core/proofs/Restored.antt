@@ -21,7 +21,8 @@ use Rattle.version_store.specs.MapHolding.{KeepsAll}
 use Rattle.table_rows.specs.RowTables.{HasRows, RowTables, with_facts}
 use Rattle.layer_objects.specs.Objects.{by_id, rows_of, table_facts, table_kinds, table_threshold}
 use Rattle.layer_objects.specs.Storable.{IsSized}
-use Rattle.layer_rows.specs.Putting.{AreItems, stored_put}
+use Rattle.layer_chains.specs.Chains.{stored_put}
+use Rattle.restore_rows.specs.Putting.{AreItems}
 use Rattle.schema_catalog.specs.Catalogs.{Schemas, IsChangeable, database_fault, has_database, history_of, next_id, with_descriptor, with_table}
 use Rattle.id_remap.specs.declared.targets.Target.{Target}
 use Rattle.id_remap.specs.Remapping.{first_fault, ids_of, lacks_ids, missing_reference, new_id, remap_fault, remapped_schema, taken_name}
@@ -113,6 +114,7 @@ module _ (made published : Time) (s : Schema) (items : List RowItem) (begins : t
     id_is = refl;
     schemas = own;
     facts = λ f has. rw (map-dated (put_anew made) made (λ i. refl) items f has) (lt-le made published later);
+    after = λ f has. rw (map-dated (put_anew made) made (λ i. refl) items f has) begins;
     threshold = zero-le published;
     sized = λ f has. all items f sized has;
     dated = dated;

@@ -9,7 +9,7 @@ use Rattle.mvcc_keys.specs.Times.{Time}
 use Rattle.mvcc_keys.specs.declared.entries.Entry.{Entry}
 use Rattle.table_descriptors.specs.Descriptors.{Schema, key_kinds}
 use Rattle.history_model.specs.Histories.{Table}
-use Rattle.layer_rows.specs.Putting.{stored_put}
+use Rattle.layer_chains.specs.Chains.{stored_put}
 use Rattle.reply_texts.specs.declared.refusals.Refusal.{Refusal}
 use Rattle.machine_model.specs.Machine.{first_refusal}
 use Rattle.machine_model.specs.Restores.{count_to_restore, rows_to_restore}

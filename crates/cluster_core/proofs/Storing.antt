@@ -51,11 +51,6 @@ got-end : {X : Type 0} (xs ys : List X) (y : X) → slice_get ((xs ++ y ∷ []) 
 got-end [] ys y = refl
 got-end (x ∷ xs) ys y = got-end xs ys y
 
-pub got-first : {X : Type 0} (xs ys : List X) (i : ℕ) (x : X) → slice_get xs i ≡ Some x → slice_get (xs ++ ys) i ≡ Some x
-got-first [] ys i x e = cc e
-got-first (z ∷ zs) ys zero x e = e
-got-first (z ∷ zs) ys (suc i) x e = got-first zs ys i x e
-
 pub has-left : {X : Type 0} (x : X) (xs ys : List X) → Has x xs → Has x (xs ++ ys)
 has-left x [] ys h = absurd h
 has-left x (z ∷ zs) ys (inl e) = inl e

@@ -1,6 +1,6 @@
 -- The chain of layers by which a time of a source is read, and the rows that it holds.
 use Rattle.std.specs.Global.{Vec}
-use Rattle.std.specs.Prelude.{◌≡◌, ◌<◌, ◌&&◌, ℕ, nat_le, Bool, true, false, Some, None, Result, Ok, Err, List, [], ◌∷◌, length, map, filter_map, slice_get, ◌⊎◌, Option}
+use Rattle.std.specs.Prelude.{◌≡◌, ◌&&◌, ℕ, nat_le, Bool, true, false, Some, None, Result, Ok, Err, List, [], ◌∷◌, length, map, filter_map, slice_get, ◌⊎◌, Option}
 use Rattle.mvcc_keys.specs.Times.{Time}
 use Rattle.std.specs.List.{AllByRecursion}
 use Rattle.std.specs.Ordering.{is_lt, nat_cmp}
@@ -12,6 +12,7 @@ use Rattle.key_encoding.specs.Reading.{read_uvarint}
 use Rattle.key_encoding.specs.declared.fault.KeyFault.{KeyFault}
 use Rattle.row_codec.specs.declared.rows.Kind.{Kind}
 use Rattle.mvcc_keys.specs.declared.entries.Entry.{Entry}
+use Rattle.table_descriptors.specs.declared.scopes.Scope.{Scope}
 use Rattle.table_descriptors.specs.Descriptors.{Schema, key_kinds}
 use Rattle.fact_model.specs.Facts.{Put}
 use Rattle.history_model.specs.Histories.{Table}
@@ -20,13 +21,11 @@ use Rattle.history_model.specs.Layers.{LayerRecord}
 use Rattle.history_model.specs.Rows.{RowItem}
 use Rattle.layer_manifest.specs.declared.manifest.Manifest.{Manifest}
 use Rattle.layer_model.specs.declared.names.LayerName.{LayerName}
-use Rattle.layer_model.specs.declared.names.Part.TheVariants.{Chunk}
-use Rattle.layer_model.specs.Layers.{Holds}
-use Rattle.layer_objects.specs.Objects.{manifest_of, name_of_record, objects_of}
-use Rattle.layer_objects.specs.Storable.{AreStorable, IsSized, MayBeWritten}
-use Rattle.cluster_core.specs.FullLayers.{IsFull}
-use Rattle.layer_rows.specs.Putting.{DifferInKey, IsItem, stored_put}
-use Rattle.layer_rows.specs.Reading.{AreEntriesOf}
+use Rattle.layer_objects.specs.Storable.{IsSized}
+use Rattle.chunk_file.specs.Entries.{IsStored, is_entry}
+use Rattle.layer_chains.specs.Chains.{AreMergeable, AreOfScope, IsChainTo, stored_put}
+use Rattle.layer_chains.specs.Standing.{AreStandingLayers}
+use Rattle.restore_rows.specs.Putting.{DifferInKey, IsItem}
 use Rattle.layer_book.specs.Books.{Book}
 use Rattle.chain_resolver.specs.declared.faults.CoverFault.{CoverFault}
 use Rattle.chain_resolver.specs.declared.faults.CoverFault.TheVariants as cover
@@ -89,16 +88,14 @@ IsChainFault book source collection at halt = IsSourceFault book source collecti
 
 -- ---- rows
 
--- The layer of a name with this manifest is a full one of these tables, and its chunks are on the disk.
-pub record IsStanding (tables : List Table) (r : LayerRecord) (layer : LayerName) (m : Manifest) (objects : Objects) : Type 0 where
-  pub name : layer ≡ name_of_record r
-  pub manifest : m ≡ manifest_of tables r
-  pub full : IsFull r
-  pub may : MayBeWritten tables r
-  pub storable : AreStorable tables
-  pub chunks : (i : ℕ) → i < length (objects_of tables r).chunks → Holds (objects_of tables r) (Chunk i) objects
+-- Layers of a chain to t with their manifests, whose chunks are on the disk: those of these records of one scope, over tables of which layers can be merged.
+pub record IsStandingChain (tables : List Table) (scope : Scope) (rs : List LayerRecord) (layers : List (LayerName × Manifest)) (t : Time) (objects : Objects) : Type 0 where
+  pub stored : AreStandingLayers tables objects rs layers
+  pub scopes : AreOfScope scope rs
+  pub chain : IsChainTo t rs
+  pub mergeable : AreMergeable tables
 
--- the puts that a layer stores of a chosen table
+-- the stored puts of a chosen table's rows
 abbrev pub stored_rows : List Table → Time → Schema → List Entry
 stored_rows tables t d = map (stored_put d.id (key_kinds d)) (rows_to_restore tables t d)
 
@@ -106,12 +103,16 @@ stored_rows tables t d = map (stored_put d.id (key_kinds d)) (rows_to_restore ta
 abbrev pub entries_in : Vec Entry → List Entry
 entries_in v = v.items
 
+-- an entry of a table, as it is stored
+abbrev pub IsEntryOf : Schema → Entry → Type 0
+IsEntryOf d e = (is_entry d.id (key_kinds d) e ≡ true) × IsStored e
+
 -- what is read of chosen tables, each in its order
 abbrev pub AreTypedRows : List Schema → List (Vec Entry) → Type 0
 AreTypedRows [] [] = Unit {0}
 AreTypedRows [] (v ∷ vs) = ⊥
 AreTypedRows (d ∷ ds) [] = ⊥
-AreTypedRows (d ∷ ds) (v ∷ vs) = AreEntriesOf d.id (key_kinds d) v.items × AreTypedRows ds vs
+AreTypedRows (d ∷ ds) (v ∷ vs) = AllByRecursion (IsEntryOf d) v.items × AreTypedRows ds vs
 
 -- ---- rows that may be put anew
 

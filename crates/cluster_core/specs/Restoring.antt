@@ -14,7 +14,8 @@ use Rattle.history_model.specs.Rows.{RowItem}
 use Rattle.history_model.specs.Histories.{Table}
 use Rattle.version_store.specs.declared.mvcc_map.MvccMap.{MvccMap}
 use Rattle.layer_objects.specs.Storable.{IsSized}
-use Rattle.layer_rows.specs.Putting.{AreItems, stored_put}
+use Rattle.layer_chains.specs.Chains.{stored_put}
+use Rattle.restore_rows.specs.Putting.{AreItems}
 use Rattle.machine_model.specs.Restores.{put_anew}
 use Rattle.cluster_core.specs.ClusterView.{ClusterState}
 use Rattle.cluster_core.specs.Standing.{Keeps}

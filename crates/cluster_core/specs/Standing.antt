@@ -1,6 +1,6 @@
 -- The machine for which a cluster stands.
-use Rattle.std.specs.Prelude.{◌≡◌, ◌≢◌, ℕ, ◌+◌, ◌-◌, ◌^◌, ◌<◌, ◌≤◌, true, List, [], slice_get, map, length, Option, Some, Result, Ok, Err, MatchResult}
-use Rattle.mvcc_keys.specs.Times.{Time, zero_time, time_le}
+use Rattle.std.specs.Prelude.{◌≡◌, ◌≢◌, ℕ, ◌+◌, ◌<◌, ◌≤◌, Bool, true, false, List, [], slice_get, map, length, Option, Some, Result, Ok, Err}
+use Rattle.mvcc_keys.specs.Times.{Time, zero_time, time_le, time_lt}
 use Rattle.row_codec.specs.declared.rows.Kind.{Kind}
 use Rattle.table_descriptors.specs.Descriptors.{Schema, key_kinds}
 use Rattle.fact_model.specs.Facts.{date}
@@ -25,7 +25,7 @@ use Rattle.reply_texts.specs.declared.answers.Answer.{Answer}
 use Rattle.reply_texts.specs.declared.replies.Response.{Response}
 use Rattle.reply_texts.specs.declared.replies.Response.TheVariants.{Answered}
 use Rattle.reply_texts.specs.declared.replies.Response.TheVariants as response
-use Rattle.outside_world.specs.Causes.{Rose}
+use Rattle.outside_world.specs.Causes.{Counted, HasCauseBy}
 use Rattle.outside_world.specs.Disk.{View}
 use Rattle.outside_world.specs.Moments.{ChangesOnly, LeavesOnly}
 use Rattle.outside_world.specs.Objects.{Objects, at}
@@ -47,11 +47,12 @@ pub record IsOwn (id : ℕ) (kinds : List Kind) (d : Schema) : Type 0 where
   pub id_is : d.id ≡ id
   pub kinds_are : kinds ≡ key_kinds d
 
--- the table of an id: it has a descriptor, their dates ascend, nothing of it is dated after the clock, and a layer can hold its facts
+-- the table of an id: it has a descriptor, their dates ascend, its facts are dated after zero_time, nothing of it is dated after the clock, and a layer can hold its facts
 pub record IsOrderly (clock : Time) (id : ℕ) (table : Table) : Type 0 where
   pub id_is : table.id ≡ id
   pub schemas : (d : Schema) → Has d table.descriptors → IsOwn id (table_kinds table) d
   pub facts : (f : RowFact) → Has f table.facts → time_le (date f) clock ≡ true
+  pub after : (f : RowFact) → Has f table.facts → time_lt zero_time (date f) ≡ true
   pub threshold : time_le table.threshold clock ≡ true
   pub sized : (f : RowFact) → Has f table.facts → IsSized (table_kinds table) f
   pub dated : (d : Schema) → Has d table.descriptors → time_le d.modified clock ≡ true
@@ -178,13 +179,15 @@ pub record MayStep (c : ClusterState) (m : Machine) (s : Stepped) (end : Machine
   pub ready : IsReady (Some m) (Some end) v
   pub later : IsLater s.machine end
 
+-- the disk failed
+abbrev pub is_disk_halt : Halt → Bool
+is_disk_halt Disk = true
+is_disk_halt (Refused refusal) = false
+is_disk_halt Memory = false
+
 -- the disk failed just where the halt says so
 abbrev pub HaltCounts : Halt → ℕ → ℕ → Type 0
-HaltCounts Disk before now = Rose before now
-HaltCounts (Refused refusal) before now = now ≡ before
-HaltCounts Memory before now = now ≡ before
+HaltCounts e before now = Counted (is_disk_halt e) before now
 
-pub record HaltHasCause {T : Type 0} (before now : ℕ) (result : Result T Halt) : Type 0 where
-  pub later : before ≤ now
-  pub capped : before ≤ 2 ^ 64 - 1 → now ≤ 2 ^ 64 - 1
-  pub counts : MatchResult result (λ _. now ≡ before) (λ e. HaltCounts e before now)
+abbrev pub HaltHasCause : {T : Type 0} → ℕ → ℕ → Result T Halt → Type 0
+HaltHasCause before now result = HasCauseBy is_disk_halt before now result

@@ -1,6 +1,6 @@
 -- What a step answers, and what it leaves of the disk.
-use Rattle.std.specs.Prelude.{◌≡◌, ◌≤◌, ◌-◌, ◌^◌, ℕ, Bool, true, false, Some, Result, IfOk, OnOk, MatchResult}
-use Rattle.outside_world.specs.Causes.{Rose}
+use Rattle.std.specs.Prelude.{◌≡◌, ℕ, Bool, true, false, Some, Result, IfOk, OnOk}
+use Rattle.outside_world.specs.Causes.{HasCauseBy}
 use Rattle.reply_texts.specs.declared.replies.Reply.{Reply}
 use Rattle.reply_texts.specs.declared.replies.Response.{Response}
 use Rattle.reply_texts.specs.Texts.{reply_text, refusal_of}
@@ -27,17 +27,15 @@ pub record IsReplied (c : ClusterState) (reply : Reply) (s : Stepped) : Type 0 w
   pub stands : StandsFor c s.machine
   pub reply_is : IsReplyOf s.response reply
 
--- the disk failed just where the fault says so
-abbrev pub CountsAs : RunFault → ℕ → ℕ → Type 0
-CountsAs Disk before now = Rose before now
-CountsAs Memory before now = now ≡ before
-CountsAs Ended before now = now ≡ before
+-- the disk failed
+abbrev pub is_disk : RunFault → Bool
+is_disk Disk = true
+is_disk Memory = false
+is_disk Ended = false
 
--- the count of the disk's faults never falls and stays in 64 bits; it rose where the answer is Disk, and is as before at every other
-pub record RunHasCause {T : Type 0} (before now : ℕ) (result : Result T RunFault) : Type 0 where
-  pub later : before ≤ now
-  pub capped : before ≤ 2 ^ 64 - 1 → now ≤ 2 ^ 64 - 1
-  pub counts : MatchResult result (λ _. now ≡ before) (λ e. CountsAs e before now)
+-- the count of the disk's faults rose where the answer is Disk, and is as before at every other
+abbrev pub RunHasCause : {T : Type 0} → ℕ → ℕ → Result T RunFault → Type 0
+RunHasCause before now result = HasCauseBy is_disk before now result
 
 -- What a step does over a disk that was ready: by the machine's step, and on the way to the end. It puts and removes objects of its cluster, and puts no chunk that was marked as it began.
 -- A layer that is open afterwards and wasn't before has its manifest in version 2. Where all layers of the script are done, it does nothing to the disk.

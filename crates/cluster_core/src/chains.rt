@@ -1,5 +1,5 @@
 //! The chain of layers by which a time of a source is read, and the rows that it holds.
-ghost use Rattle.std.specs.Prelude.{◌≡◌, ◌++◌, ◌∷◌, ◌&&◌, ◌==◌, ℕ, true, None, [], List, map, filter_map, slice_get, option_map, option_to_list, position, unwrap_or, IfOk, IfErr, OnOk};
+ghost use Rattle.std.specs.Prelude.{◌≡◌, ◌++◌, ◌∷◌, ◌&&◌, true, None, [], List, map, filter_map, slice_get, option_map, option_to_list, unwrap_or, IfOk, IfErr, OnOk};
 ghost use Rattle.std.specs.List.{AllByRecursion};
 ghost use Rattle.std.specs.Option.{option_copied};
 ghost use Rattle.std.specs.Str.{bytes_eq};
@@ -9,19 +9,19 @@ ghost use Rattle.list_laws.specs.Members.{Has};
 ghost use Rattle.mvcc_keys.specs.Times.{time_le, latest, or_zero};
 ghost use Rattle.history_model.specs.Histories.{Table, in_force};
 ghost use Rattle.history_model.specs.Layers as records;
-ghost use Rattle.table_descriptors.specs.Descriptors.{key_kinds};
 ghost use Rattle.outside_world.specs.Disk.{OnlyReads, Tells};
-ghost use Rattle.layer_manifest.specs.Manifests.{IsProperManifest};
 ghost use Rattle.collection_dir.specs.Faults.{DirHasCause, IsDiskFault};
-ghost use Rattle.layer_rows.specs.Reading.{AreEntriesOf};
+ghost use Rattle.table_descriptors.specs.declared.scopes.Scope.{Scope};
+ghost use Rattle.stored_chunks.specs.Parts.{AreProperLayers};
+ghost use Rattle.layer_chains.specs.Chains.{IsShown};
 ghost use Rattle.introduced_spans.specs.Publicity.{is_public};
 ghost use Rattle.chain_resolver.specs.Ways.{AreOrdered};
 ghost use Rattle.chain_resolver.specs.Cover.{ends_of};
 ghost use Rattle.machine_model.specs.Machine.{Machine};
-ghost use Rattle.machine_model.specs.Restores.{chosen_by, chosen_tables, link_of, links_of, time_of};
+ghost use Rattle.machine_model.specs.Restores.{chosen_by, link_of, links_of, time_of};
 ghost use Rattle.cluster_core.specs.ClusterView.{record_of};
 ghost use Rattle.cluster_core.specs.Standing.{StandsFor};
-ghost use Rattle.cluster_core.specs.Chains.{AreTypedRows, IsChain, IsChainFault, IsChainOf, IsStanding, HasBytes, IsUncovered, are_rows, entries_in, halt_of_cover, is_above, is_row, is_short, stored_rows};
+ghost use Rattle.cluster_core.specs.Chains.{AreTypedRows, IsChain, IsChainFault, IsChainOf, IsEntryOf, IsStandingChain, HasBytes, IsUncovered, are_rows, entries_in, halt_of_cover, is_above, is_row, is_short, stored_rows};
 
 use crate::cluster::Cluster;
 use crate::halts::Halt;
@@ -30,12 +30,13 @@ use collection_dir::DirFault;
 use key_encoding::take_uvarint;
 use layer_manifest::{Manifest, TablePart};
 use layer_model::LayerName;
-use layer_rows::{are_bytes, read_table};
 use mvcc_keys::{Entry, Hlc, Memory, latest, time_or_zero};
 use outside_world::Disk;
 use reply_texts::Refusal;
+use restore_rows::read_rows;
 use script_grammar::Src;
 use std::alloc::Global;
+use stored_chunks::are_bytes;
 use table_descriptors::{Descriptor, Name, State};
 
 /// The layers by which a time is read, in order.
@@ -243,39 +244,22 @@ pub(crate) fn chosen_of(
 
 // ---- the rows
 
-fn has_id(part: &TablePart, id: u32) -> bool
-    ensures { result ≡ (part.now.id == id) }
-{
-    part.id == id
-}
-
-/// The place of the part of a table.
-fn place_of(tables: &[TablePart], id: u32) -> Option<usize>
-    ensures { result ≡ position (λ (part : TablePart). part.id == id) tables.now }
-{
-    tables.iter().position(|part| has_id(part, id))
-}
-
-/// The entries of a chosen table, from the chunks of a layer.
+/// The rows of a chosen table, out of the layers of a chain.
 fn read_chosen<D: Disk>(
     alloc: Global,
     disk: &mut D,
-    layer: &LayerName,
-    m: &Manifest,
+    chain: &Chain,
     d: &Descriptor,
 ) -> Result<Vec<Entry>, DirFault>
-    requires { IsProperManifest m.now }
-    ensures rows { (tables : List Table) (r : records.LayerRecord) (database : List ℕ) → Tells (D.view disk.old) → IsStanding tables r layer.now m.now (D.view disk.old).objects → Has d.now (chosen_tables tables database r.end r)
-        → IfOk result (λ v. v.items ≡ stored_rows tables r.end d.now) × IfErr result IsDiskFault }
-    ensures typed { IfOk result (λ v. AreEntriesOf d.now.id (key_kinds d.now) v.items) }
+    requires { AreProperLayers chain.now.layers.items }
+    ensures rows { (tables : List Table) (scope : Scope) (rs : List records.LayerRecord) → Tells (D.view disk.old) → IsStandingChain tables scope rs chain.now.layers.items chain.now.time (D.view disk.old).objects → IsShown tables scope chain.now.time d.now
+        → IfOk result (λ v. v.items ≡ stored_rows tables chain.now.time d.now) × IfErr result IsDiskFault }
+    ensures typed { IfOk result (λ v. AllByRecursion (IsEntryOf d.now) v.items) }
     ensures reads { OnlyReads (D.view disk.old) (D.view disk.new) }
     ensures cause { DirHasCause (D.view disk.old).faults (D.view disk.new).faults result }
 {
-    let Some(place) = place_of(m.tables.as_slice(), d.id()) else {
-        return Err(DirFault::Memory);
-    };
     let kinds = d.key_kinds(alloc)?;
-    read_table(alloc, disk, layer, m, place, &kinds)
+    read_rows(alloc, disk, &chain.layers, d.id(), &kinds, chain.time)
 }
 
 fn add_entries(rows: &mut Vec<Vec<Entry>>, entries: Vec<Entry>) -> Result<(), Memory>
@@ -284,24 +268,23 @@ fn add_entries(rows: &mut Vec<Vec<Entry>>, entries: Vec<Entry>) -> Result<(), Me
     rows.push(entries).map_err(|_| Memory)
 }
 
-/// The entries of each chosen table, from the chunks of a layer.
-pub(crate) fn read_rows<D: Disk>(
+/// The rows of each chosen table.
+pub(crate) fn read_tables<D: Disk>(
     alloc: Global,
     disk: &mut D,
-    layer: &LayerName,
-    m: &Manifest,
+    chain: &Chain,
     chosen: &[Descriptor],
 ) -> Result<Vec<Vec<Entry>>, DirFault>
-    requires { IsProperManifest m.now }
-    ensures rows { (tables : List Table) (r : records.LayerRecord) (database : List ℕ) → Tells (D.view disk.old) → IsStanding tables r layer.now m.now (D.view disk.old).objects → chosen.now ≡ chosen_tables tables database r.end r
-        → IfOk result (λ v. map entries_in v.items ≡ map (stored_rows tables r.end) chosen.now) × IfErr result IsDiskFault }
+    requires { AreProperLayers chain.now.layers.items }
+    ensures rows { (tables : List Table) (scope : Scope) (rs : List records.LayerRecord) → Tells (D.view disk.old) → IsStandingChain tables scope rs chain.now.layers.items chain.now.time (D.view disk.old).objects → AllByRecursion (IsShown tables scope chain.now.time) chosen.now
+        → IfOk result (λ v. map entries_in v.items ≡ map (stored_rows tables chain.now.time) chosen.now) × IfErr result IsDiskFault }
     ensures typed { IfOk result (λ v. AreTypedRows chosen.now v.items) }
     ensures reads { OnlyReads (D.view disk.old) (D.view disk.new) }
     ensures cause { DirHasCause (D.view disk.old).faults (D.view disk.new).faults result }
 {
     let mut rows = Vec::new(alloc);
     for d in chosen {
-        match read_chosen(alloc, disk, layer, m, d) {
+        match read_chosen(alloc, disk, chain, d) {
             Ok(entries) => match add_entries(&mut rows, entries) {
                 Ok(()) => {}
                 Err(Memory) => return Err(DirFault::Memory),

@@ -2,6 +2,7 @@
 ghost use Rattle.std.specs.Prelude.{◌≡◌, ◌∷◌, ◌++◌, ◌<◌, ◌≤◌, ◌+◌, ◌^◌, ℕ, [], true, None, Some, List, length, map, unwrap_or, IfErr, IfOk, OnOk};
 ghost use Rattle.std.specs.List.{AllByRecursion, range_with_len};
 ghost use Rattle.mvcc_keys.specs.Times.{IsTime, next};
+ghost use Rattle.table_descriptors.specs.declared.scopes.Scope.{Scope};
 ghost use Rattle.table_descriptors.specs.Descriptors.{IsProperSchema, Schema};
 ghost use Rattle.history_model.specs.Histories.{Table};
 ghost use Rattle.history_model.specs.Layers as records;
@@ -9,23 +10,25 @@ ghost use Rattle.outside_world.specs.Disk.{OnlyReads, Tells};
 ghost use Rattle.outside_world.specs.Moments.{ChangesOnly};
 ghost use Rattle.machine_model.specs.Machine.{Machine};
 ghost use Rattle.layer_manifest.specs.Manifests.{IsProperManifest};
+ghost use Rattle.layer_chains.specs.Chains.{IsShown};
+ghost use Rattle.stored_chunks.specs.Parts.{AreProperLayers};
 ghost use Rattle.history_model.specs.Rows.{RowItem};
 ghost use Rattle.schema_catalog.specs.Catalogs.{database_fault, history_of, next_id};
 ghost use Rattle.id_remap.specs.declared.targets.Target.TheVariants as target;
 ghost use Rattle.key_rewriter.specs.Ids.{are_ascending};
 ghost use Rattle.id_remap.specs.Remapping.{ids_of, new_id, remapped_schema};
 ghost use Rattle.reply_texts.specs.declared.answers.Answer.TheVariants.{RestoreDone};
-ghost use Rattle.machine_model.specs.Restores.{chosen_tables, count_to_restore, last_of, nothing_refusal, restore_chain, restore_database, restored_as, span_of};
+ghost use Rattle.machine_model.specs.Restores.{count_to_restore, last_of, nothing_refusal, restore_chain, restore_database, restored_as, span_of};
 ghost use Rattle.cluster_core.specs.declared.halts.Halt.TheVariants.{Memory as no_memory};
 ghost use Rattle.cluster_core.specs.ClusterView.{record_of};
 ghost use Rattle.layer_model.specs.Names.{IsOwnName};
 ghost use Rattle.cluster_core.specs.Standing.{HaltHasCause, Keeps, MayStep, RefusedBy, Runs, StandsFor};
 ghost use Rattle.cluster_core.specs.Backing.{StandsStill};
-ghost use Rattle.cluster_core.specs.Chains.{AreTypedRows, IsOneLayer, IsStanding, entries_in, stored_rows};
+ghost use Rattle.cluster_core.specs.Chains.{AreTypedRows, IsOneLayer, IsStandingChain, entries_in, stored_rows};
 ghost use Rattle.cluster_core.specs.Restoring.{AreRowsOfEach, HasRoomFor, count_rows, entries_of, made_tables};
 ghost use Rattle.cluster_core.specs.Restores.{AreTested, EndsBy, IsFullTwice, IsHard, IsPlanned, IsTested, refusal_of_chosen, restored_by, room_test, shown_tables, with_restore};
 
-use crate::chains::{Chain, are_rows, chosen_of, read_rows};
+use crate::chains::{Chain, are_rows, chosen_of, read_tables};
 use crate::cluster::Cluster;
 use crate::finding::{draw_time, is_time};
 use crate::halts::Halt;
@@ -248,24 +251,23 @@ fn plan_tables(
     }
 }
 
-/// The entries of chosen tables. A disk that stands has such as may be put anew; where they aren't,
+/// The rows of chosen tables. A disk that stands has such as may be put anew; where they aren't,
 /// the answer is want of memory.
 fn read_tested<D: Disk>(
     alloc: Global,
     disk: &mut D,
-    layer: &LayerName,
-    m: &Manifest,
+    chain: &Chain,
     chosen: &[Descriptor],
 ) -> Result<Vec<Vec<Entry>>, Halt>
-    requires { IsProperManifest m.now }
-    ensures rows { (tables : List Table) (r : records.LayerRecord) (database : List ℕ) → Tells (D.view disk.old) → IsStanding tables r layer.now m.now (D.view disk.old).objects → chosen.now ≡ chosen_tables tables database r.end r
-        → IfOk result (λ v. map entries_in v.items ≡ map (stored_rows tables r.end) chosen.now) × IfErr result IsHard }
+    requires { AreProperLayers chain.now.layers.items }
+    ensures rows { (tables : List Table) (scope : Scope) (rs : List records.LayerRecord) → Tells (D.view disk.old) → IsStandingChain tables scope rs chain.now.layers.items chain.now.time (D.view disk.old).objects → AllByRecursion (IsShown tables scope chain.now.time) chosen.now
+        → IfOk result (λ v. map entries_in v.items ≡ map (stored_rows tables chain.now.time) chosen.now) × IfErr result IsHard }
     ensures typed { IfOk result (λ v. AreTypedRows chosen.now v.items) }
     ensures tested { IfOk result (λ v. AreTested chosen.now v.items) }
     ensures reads { OnlyReads (D.view disk.old) (D.view disk.new) }
     ensures cause { HaltHasCause (D.view disk.old).faults (D.view disk.new).faults result }
 {
-    match read_rows(alloc, disk, layer, m, chosen) {
+    match read_tables(alloc, disk, chain, chosen) {
         Ok(rows) => {
             if are_tested(chosen, &rows) {
                 Ok(rows)
@@ -336,32 +338,32 @@ impl Cluster {
         }
     }
 
-    /// What a restore adds. It only reads the disk.
+    /// What a restore adds, by a chain and the manifest of its last layer. It only reads the disk.
     fn read_restore<D: Disk>(
         &self,
         disk: &mut D,
-        layer: &LayerName,
+        chain: &Chain,
         m: &Manifest,
-        time: Hlc,
         database: &Name,
         new: &Name,
         made: Hlc,
     ) -> Result<Prepared, Halt>
-        requires { IsProperManifest m.now }
-        ensures planned { IfOk result (λ p. IsPlanned self.now.schemas new.now made (shown_tables database.now time m.now) p.plan) }
-        ensures typed { IfOk result (λ p. AreTypedRows (shown_tables database.now time m.now) p.rows.items) }
-        ensures tested { IfOk result (λ p. AreTested (shown_tables database.now time m.now) p.rows.items) }
+        requires proper { IsProperManifest m.now }
+        requires layers { AreProperLayers chain.now.layers.items }
+        ensures planned { IfOk result (λ p. IsPlanned self.now.schemas new.now made (shown_tables database.now chain.now.time m.now) p.plan) }
+        ensures typed { IfOk result (λ p. AreTypedRows (shown_tables database.now chain.now.time m.now) p.rows.items) }
+        ensures tested { IfOk result (λ p. AreTested (shown_tables database.now chain.now.time m.now) p.rows.items) }
         ensures count { IfOk result (λ p. p.count ≡ count_rows (entries_of p.rows.items)) }
         ensures fits { IfOk result (λ p. self.now.events + count_rows (entries_of p.rows.items) ≤ self.now.most_events) }
         ensures passed { IfOk result (λ p. room_test self.now (count_rows (entries_of p.rows.items)) ≡ None) }
-        ensures rows { (tables : List Table) (r : records.LayerRecord) → Tells (D.view disk.old) → IsStanding tables r layer.now m.now (D.view disk.old).objects → shown_tables database.now time m.now ≡ chosen_tables tables database.now r.end r
-            → IfOk result (λ p. map entries_in p.rows.items ≡ map (stored_rows tables r.end) (shown_tables database.now time m.now))
-            × IfErr result (λ e. EndsBy e (refusal_of_chosen self.now.schemas new.now made (shown_tables database.now time m.now) (room_test self.now (count_to_restore tables r.end (shown_tables database.now time m.now)) ∷ []))) }
+        ensures rows { (tables : List Table) (scope : Scope) (rs : List records.LayerRecord) → Tells (D.view disk.old) → IsStandingChain tables scope rs chain.now.layers.items chain.now.time (D.view disk.old).objects → AllByRecursion (IsShown tables scope chain.now.time) (shown_tables database.now chain.now.time m.now)
+            → IfOk result (λ p. map entries_in p.rows.items ≡ map (stored_rows tables chain.now.time) (shown_tables database.now chain.now.time m.now))
+            × IfErr result (λ e. EndsBy e (refusal_of_chosen self.now.schemas new.now made (shown_tables database.now chain.now.time m.now) (room_test self.now (count_to_restore tables chain.now.time (shown_tables database.now chain.now.time m.now)) ∷ []))) }
         ensures reads { OnlyReads (D.view disk.old) (D.view disk.new) }
         ensures cause { HaltHasCause (D.view disk.old).faults (D.view disk.new).faults result }
     {
-        let plan = self.plan_restore(m, time, database, new, made)?;
-        let rows = read_tested(self.alloc, disk, layer, m, &plan.chosen)?;
+        let plan = self.plan_restore(m, chain.time, database, new, made)?;
+        let rows = read_tested(self.alloc, disk, chain, &plan.chosen)?;
         let count = self.count_within(&rows)?;
         Ok(Prepared { plan, rows, count })
     }
@@ -426,7 +428,7 @@ impl Cluster {
     {
         let (made, published) = times;
         proper_catalog(&self.catalog);
-        match self.read_restore(disk, &layer.0, &layer.1, chain.time, database, new, made) {
+        match self.read_restore(disk, chain, &layer.1, database, new, made) {
             Ok(p) => self.finish_restore(chain, new, made, published, p),
             // by cases and not by `?`, which would make the halt anew
             Err(halt) => Err(halt),

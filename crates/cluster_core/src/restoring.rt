@@ -18,8 +18,8 @@ ghost use Rattle.cluster_core.specs.Restoring.{AreRowsOfEach, HasRoomFor, IsAddi
 use crate::cluster::Cluster;
 use crate::halts::Halt;
 use key_rewriter::IdMap;
-use layer_rows::put_rows;
 use mvcc_keys::{Entry, Hlc, Memory};
+use restore_rows::put_rows;
 use schema_catalog::Catalog;
 use std::alloc::Global;
 use table_descriptors::{Change, Descriptor, Name, State};

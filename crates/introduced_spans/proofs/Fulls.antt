@@ -11,7 +11,7 @@ use Rattle.introduced_spans.specs.Spans.{descriptors_of, scope_ids, is_introduce
 use Rattle.introduced_spans.specs.PlanLaws.{ascend_after, whole_at, FullIsWhole}
 use Rattle.introduced_spans.proofs.Lists.{all-filter, all-true, map-same, none-found}
 use Rattle.mvcc_keys.proofs.TimeOrder.{le-not_lt}
-use Rattle.introduced_spans.proofs.Becoming.{became}
+use Rattle.introduced_spans.proofs.Walks.{became}
 
 got : (tables : List (List Schema)) (i : ℕ) → AllByRecursion (λ ds. ascend_after zero_time ds ≡ true) tables → ascend_after zero_time (unwrap_or (slice_get tables i) []) ≡ true
 got [] i h = refl

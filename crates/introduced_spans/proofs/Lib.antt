@@ -1,6 +1,5 @@
 pub mod Steps
 pub mod Lists
-pub mod Becoming
 pub mod Standing
 pub mod Fulls
 pub mod Walks

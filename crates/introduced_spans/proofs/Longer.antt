@@ -1,5 +1,5 @@
 -- Further descriptors, dated after a time, change nothing up to it.
-use Rattle.std.proofs.Common.{◌≡◌, ⊎_elim, inl, inr, Bool, true, false, cond, not, ◌&&◌, ◌||◌, refl, ap, subst, ◌∙◌, List, [], ◌∷◌, ◌++◌, map, filter, reverse, append-nil, Option, Some, None, option_map, unwrap_or}
+use Rattle.std.proofs.Common.{◌≡◌, inl, inr, Bool, true, false, cond, not, ◌&&◌, ◌||◌, refl, ap, ◌∙◌, List, [], ◌∷◌, ◌++◌, map, filter, reverse, append-nil, Option, Some, None, option_map, unwrap_or}
 use Rattle.std.specs.Prelude.{option_to_list, if◌then◌else◌}
 use Rattle.std.specs.List.{find, list_any}
 use Rattle.std.proofs.lemmas.List.{reverse-append, map-append}
@@ -8,7 +8,7 @@ use Rattle.std.proofs.lemmas.List.Folds.{list_any-append}
 use Rattle.mvcc_keys.specs.Times.{Time, time_lt, time_le}
 use Rattle.table_descriptors.specs.Descriptors.{Schema}
 use Rattle.list_laws.specs.Members.{Has}
-use Rattle.list_laws.proofs.Members.{has-append_cases, reverse-has}
+use Rattle.list_laws.proofs.Members.{reverse-has}
 use Rattle.mvcc_keys.proofs.TimeOrder.{not_le-lt, lt-not_le, le-lt-lt}
 use Rattle.history_model.specs.Histories.{in_force}
 use Rattle.range_tombstones.specs.Intervals.{is_between}

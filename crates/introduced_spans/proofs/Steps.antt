@@ -1,16 +1,8 @@
 -- One descriptor more of a walk.
-use Rattle.std.proofs.Common.{◌≡◌, Bool, true, false, cond, ◌&&◌, ◌||◌, if◌then◌else◌, refl, sym, ap, ◌∙◌, ℕ, ◌+◌, ◌<◌, length, get_or, drop, drop-cons, add-one, List, ◌∷◌, Option, map, filter, fold}
-use Rattle.std.specs.List.{list_any}
+use Rattle.std.proofs.Common.{◌≡◌, Bool, true, false, cond, ◌&&◌, if◌then◌else◌, refl, sym, ap, ◌∙◌, ℕ, ◌+◌, ◌<◌, length, get_or, drop, drop-cons, add-one, List, ◌∷◌, Option, map, filter, fold}
 use Rattle.mvcc_keys.specs.Times.{Time, time_le}
 use Rattle.table_descriptors.specs.Descriptors.{Schema}
-use Rattle.introduced_spans.specs.Publicity.{begins, ends, dates_where, with_before, is_public, later_or}
-
-pub any_date : (test : Time → Bool) (before : Bool) (d : Schema) (ds : List Schema) → list_any test (dates_where begins before (d ∷ ds)) ≡ ((begins (before, d) && test d.modified) || list_any test (dates_where begins (is_public d) ds))
-any_date test before d ds = by (begins (before, d))
-  where
-    by : (b : Bool) → list_any test (map (λ (p : Bool × Schema). p.1.modified) (cond b ((before, d) ∷ filter begins (with_before (is_public d) ds)) (filter begins (with_before (is_public d) ds)))) ≡ ((b && test d.modified) || list_any test (dates_where begins (is_public d) ds))
-    by true = refl
-    by false = refl
+use Rattle.introduced_spans.specs.Publicity.{ends, dates_where, with_before, is_public, later_or}
 
 pub last_date : (e : Time) (best : Option Time) (before : Bool) (d : Schema) (ds : List Schema) → fold later_or best (filter (λ t. time_le t e) (dates_where ends before (d ∷ ds))) ≡ fold later_or (if ends (before, d) && time_le d.modified e then later_or best d.modified else best) (filter (λ t. time_le t e) (dates_where ends (is_public d) ds))
 last_date e best before d ds = by (ends (before, d))

@@ -13,7 +13,7 @@ use Rattle.introduced_spans.specs.PlanLaws.{ascend_after}
 use Rattle.introduced_spans.specs.Spans.{is_member_over, plan_by}
 use Rattle.list_laws.proofs.Bools as lists
 use Rattle.introduced_spans.specs.Publicity.{IsUntold}
-use Rattle.introduced_spans.proofs.Walks.{became-at, ended, latest-has}
+use Rattle.introduced_spans.proofs.Walks.{became-at, ended, ended-after, latest-has}
 use Rattle.list_laws.proofs.Bools.{and-off, or-off}
 
 -- ---- after the end
@@ -26,6 +26,14 @@ upto-public ds e is = rw is refl
 upto-ended : (ds : List Schema) (e : Time) (o : Option Time) → public_at ds e ≡ false → last_end ds e ≡ o → upto_of ds e ≡ unwrap_or (option_map Before o) (At e)
 unfolding upto_of
 upto-ended ds e o is last = rw (is, last) refl
+
+-- up to a time at which the table is public, no later than e, each time is in the upto
+pub reached : (ds : List Schema) (x e : Time) → ascend_after zero_time ds ≡ true → public_at ds x ≡ true → time_le x e ≡ true → (u : Time) → time_le u x ≡ true → within (upto_of ds e) u ≡ true
+reached ds x e a on le u early = by (public_at ds e) refl
+  where
+    by : (b : Bool) → public_at ds e ≡ b → within (upto_of ds e) u ≡ true
+    by true is = rw (upto-public ds e is) (le-trans u x e early le)
+    by false off = let q = ended-after x e ds zero_time a on le off in rw (upto-ended ds e (Some q.0) off q.1) (le-lt-lt u x q.0 early q.2)
 
 past-upto : (ds : List Schema) (e u : Time) → time_le u e ≡ false → within (upto_of ds e) u ≡ false
 past-upto ds e u late = by (public_at ds e) refl (last_end ds e) refl

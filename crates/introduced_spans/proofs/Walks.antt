@@ -1,5 +1,5 @@
 -- A walk over dated descriptors: when a table is public by them, when it becomes so, and when it stops.
-use Rattle.std.proofs.Common.{◌≡◌, ◌⊎◌, inl, inr, ⊎_elim, Bool, true, false, cond, not, ◌&&◌, ◌||◌, sym, refl, ap, subst, ◌∙◌, List, [], ◌∷◌, ◌++◌, map, filter, reverse, Option, Some, None, option_map, unwrap_or}
+use Rattle.std.proofs.Common.{◌≡◌, ◌⊎◌, inl, inr, ⊎_elim, Bool, true, false, cond, not, ◌&&◌, ◌||◌, sym, refl, ap, subst, ◌∙◌, true≢false, List, [], ◌∷◌, ◌++◌, map, filter, reverse, Option, Some, None, option_map, unwrap_or}
 use Rattle.std.specs.Prelude.{fold}
 use Rattle.std.specs.List.{find, list_any}
 use Rattle.std.proofs.lemmas.List.{reverse-append}
@@ -7,11 +7,13 @@ use Rattle.mvcc_keys.specs.Times.{Time, time_lt, time_le}
 use Rattle.table_descriptors.specs.Descriptors.{Schema}
 use Rattle.list_laws.specs.Members.{Has}
 use Rattle.list_laws.proofs.Members.{filter-has, filter-passes, has-filter}
-use Rattle.mvcc_keys.proofs.TimeOrder.{le-refl, le-trans, lt-le, not_le-lt, lt-not_le, le-lt-lt, lt-trans}
+use Rattle.mvcc_keys.proofs.TimeOrder.{le-refl, le-trans, lt-le, not_le-lt, lt-not_le, le-lt-lt, lt-le-lt, lt-trans, le-later, le-later_second}
+use Rattle.list_laws.proofs.Options.{some-is}
+use Rattle.list_laws.proofs.Filters.{any-none}
 use Rattle.history_model.specs.Histories.{in_force}
 use Rattle.range_tombstones.specs.Intervals.{is_between}
 use Rattle.range_tombstones.specs.declared.upto.Upto.TheVariants.{At}
-use Rattle.introduced_spans.specs.Publicity.{is_public, public_at, begins, ends, with_before, dates_where, becomes_public_in, later_or, latest, last_end}
+use Rattle.introduced_spans.specs.Publicity.{is_public, public_at, begins, ends, with_before, dates_where, becomes_public_in, later, later_or, latest, last_end}
 use Rattle.introduced_spans.specs.PlanLaws.{ascend_after}
 use Rattle.list_laws.proofs.Bools as lists
 
@@ -145,34 +147,56 @@ ended-at was low u q (d ∷ ds) a has less = ⊎_elim first (rest (λ v. ended-a
         from true on = later-one u on (le-refl u) less
         from false off = later-one d.modified (le-refl d.modified) (lt-le u d.modified (not_le-lt u d.modified off)) past
 
--- what is public at a time and isn't at a later one ended by it
-ended-by : (was : Bool) (low x e : Time) (ds : List Schema) → ascend_after low ds ≡ true → public-from was ds x ≡ true → time_le x e ≡ true → public-from was ds e ≡ false
-    → (q : Time) × (time_le q e ≡ true) × Has q (dates_where ends was ds)
-ended-by was low x e [] a on le off = absurd (let never : true ≡ false = sym on ∙ off in cc)
-ended-by was low x e (d ∷ ds) a on le off = by (λ v. ended-by (is_public d) d.modified v e ds (rest-after low d ds a)) (time_le d.modified x) refl (time_le d.modified e) refl (is_public d) refl
+-- the descriptors that change what a table is: where it is public those that end it, where it isn't those at which it begins
+abbrev pub changes : Bool → Bool × Schema → Bool
+changes true = ends
+changes false = begins
+
+-- the first of these is a change, as the table is something else by it
+change-first : (b was is : Bool) (d : Schema) → was ≡ b → is_public d ≡ is → is ≡ not b → changes b (was, d) ≡ true
+change-first true was is d w k n = ap (λ (c : Bool). not c && was) (k ∙ n) ∙ w
+change-first false was is d w k n = ap (λ (c : Bool). c && not was) (k ∙ n) ∙ ap not w
+
+either : (p b : Bool) → (p ≡ b) ⊎ (p ≡ not b)
+either true true = inl refl
+either true false = inr refl
+either false true = inr refl
+either false false = inl refl
+
+opposite : (b : Bool) → b ≡ not b → ⊥
+opposite true e = true≢false e
+opposite false e = true≢false (sym e)
+
+-- what is one thing at a time, and another at a later one, changed in between
+pub changed-by : (b was : Bool) (low x e : Time) (ds : List Schema) → ascend_after low ds ≡ true → public-from was ds x ≡ b → time_le x e ≡ true → public-from was ds e ≡ not b
+    → (q : Time) × (time_lt x q ≡ true) × (time_le q e ≡ true) × Has q (dates_where (changes b) was ds)
+changed-by b was low x e [] a on le off = absurd (opposite b (sym on ∙ off))
+changed-by b was low x e (d ∷ ds) a on le off = by (λ v. changed-by b (is_public d) d.modified v e ds (rest-after low d ds a)) (time_le d.modified x) refl (time_le d.modified e) refl (is_public d) refl
   where
     asc : ascend_after d.modified ds ≡ true
     asc = rest-after low d ds a
 
     Found : Type 0
-    Found = (q : Time) × (time_le q e ≡ true) × Has q (dates_where ends was (d ∷ ds))
+    Found = (q : Time) × (time_lt x q ≡ true) × (time_le q e ≡ true) × Has q (dates_where (changes b) was (d ∷ ds))
 
     Further : Type 0
-    Further = (v : Time) → public-from (is_public d) ds v ≡ true → time_le v e ≡ true → public-from (is_public d) ds e ≡ false → (q : Time) × (time_le q e ≡ true) × Has q (dates_where ends (is_public d) ds)
+    Further = (v : Time) → public-from (is_public d) ds v ≡ b → time_le v e ≡ true → public-from (is_public d) ds e ≡ not b → (q : Time) × (time_lt v q ≡ true) × (time_le q e ≡ true) × Has q (dates_where (changes b) (is_public d) ds)
 
-    further : Further → (v : Time) → public-from (is_public d) ds v ≡ true → time_le v e ≡ true → time_le d.modified e ≡ true → Found
-    further go v is upto dated = let f = go v is upto (sym (counts was d ds e dated) ∙ off) in (f.0, f.1, dates-rest ends was d ds f.0 f.2)
+    further : Further → (v : Time) → time_le x v ≡ true → public-from (is_public d) ds v ≡ b → time_le v e ≡ true → time_le d.modified e ≡ true → Found
+    further go v from is upto dated = let f = go v is upto (sym (counts was d ds e dated) ∙ off) in (f.0, le-lt-lt x v f.0 from f.1, f.2, dates-rest (changes b) was d ds f.0 f.3)
 
-    by : Further → (b : Bool) → time_le d.modified x ≡ b → (c : Bool) → time_le d.modified e ≡ c → (p : Bool) → is_public d ≡ p → Found
-    by go true i c j p k = further go x (sym (counts was d ds x i) ∙ on) le (le-trans d.modified x e i le)
+    by : Further → (i : Bool) → time_le d.modified x ≡ i → (c : Bool) → time_le d.modified e ≡ c → (p : Bool) → is_public d ≡ p → Found
+    by go true i c j p k = further go x (le-refl x) (sym (counts was d ds x i) ∙ on) le (le-trans d.modified x e i le)
     by go false i false j p k =
-        let was-on : was ≡ true = sym (before-all was low x d ds a (not_le-lt x d.modified i)) ∙ on in
-        let was-off : was ≡ false = sym (before-all was low e d ds a (not_le-lt e d.modified j)) ∙ off in
-        absurd (let never : true ≡ false = sym was-on ∙ was-off in cc)
-    by go false i true j true k = further go d.modified (none-dated (is_public d) d.modified d.modified ds asc (le-refl d.modified) ∙ k) j j
-    by go false i true j false k =
-        let was-on : was ≡ true = sym (before-all was low x d ds a (not_le-lt x d.modified i)) ∙ on in
-        (d.modified, j, dates-first ends was d ds (ap (λ (b : Bool). not b && was) k ∙ was-on))
+        let was-on : was ≡ b = sym (before-all was low x d ds a (not_le-lt x d.modified i)) ∙ on in
+        let was-off : was ≡ not b = sym (before-all was low e d ds a (not_le-lt e d.modified j)) ∙ off in
+        absurd (opposite b (sym was-on ∙ was-off))
+    by go false i true j p k =
+        let past : time_lt x d.modified ≡ true = not_le-lt x d.modified i in
+        let was-on : was ≡ b = sym (before-all was low x d ds a past) ∙ on in
+        ⊎_elim (λ same. further go d.modified (lt-le x d.modified past) (none-dated (is_public d) d.modified d.modified ds asc (le-refl d.modified) ∙ (k ∙ same)) j j)
+        (λ other. (d.modified, past, j, dates-first (changes b) was d ds (change-first b was p d was-on k other)))
+        (either p b)
 
 -- ---- the latest
 
@@ -197,6 +221,17 @@ latest-some : (xs : List Time) (any : Time) → Has any xs → (q : Time) × (la
 latest-some [] any has = absurd has
 latest-some (x ∷ xs) any has = let f = latest-from x xs in (f.0, f.1, ⊎_elim (λ is. inl is) (λ h. inr h) f.2)
 
+-- and none of them is later
+greatest-from : (b q : Time) (xs : List Time) → fold later_or (Some b) xs ≡ Some q → (time_le b q ≡ true) × ((any : Time) → Has any xs → time_le any q ≡ true)
+greatest-from b q [] is = let e : b ≡ q = some-is b q is in (subst (λ (t : Time). time_le b t ≡ true) e (le-refl b), λ any has. absurd has)
+greatest-from b q (x ∷ xs) is =
+    let f = greatest-from (later b x) q xs is in
+    (le-trans b (later b x) q (le-later b x) f.0, λ any. elim [ inl e ↦ le-trans any (later b x) q (subst (λ (t : Time). time_le t (later b x) ≡ true) (sym e) (le-later_second b x)) f.0 | inr has ↦ f.1 any has ])
+
+latest-greatest : (xs : List Time) (q any : Time) → latest xs ≡ Some q → Has any xs → time_le any q ≡ true
+latest-greatest [] q any is has = absurd has
+latest-greatest (x ∷ xs) q any is has = let f = greatest-from x q xs is in elim has [ inl e ↦ subst (λ (t : Time). time_le t q ≡ true) (sym e) f.0 | inr more ↦ f.1 any more ]
+
 pub latest-has : (xs : List Time) (q : Time) → latest xs ≡ Some q → Has q xs
 latest-has [] q is = absurd (cc)
 latest-has (x ∷ xs) q is = let f = latest-some (x ∷ xs) x (inl refl) in subst (λ (t : Time). Has t (x ∷ xs)) (let e : Some f.0 ≡ Some q = sym f.1 ∙ is in cc) f.2
@@ -218,14 +253,61 @@ became-at s e ds low a is =
     let f = any-has (is_between s (At e)) (dates_where begins false ds) is in
     (f.0, lists.and-left (time_lt s f.0) (time_le f.0 e) f.2, lists.and-right (time_lt s f.0) (time_le f.0 e) f.2, public-walk ds f.0 ∙ begun-at false low f.0 ds a f.1)
 
+pub any-there : {X : Type 0} (p : X → Bool) (xs : List X) (x : X) → Has x xs → p x ≡ true → list_any p xs ≡ true
+any-there p xs x has passes = by (list_any p xs) refl
+  where
+    by : (b : Bool) → list_any p xs ≡ b → list_any p xs ≡ true
+    by true some = some
+    by false none = absurd (true≢false (sym passes ∙ any-none p xs x none has))
+
+-- what wasn't public at a time and is at a later one became so in between
+pub became-between : (s t : Time) (ds : List Schema) (low : Time) → ascend_after low ds ≡ true → public_at ds s ≡ false → time_le s t ≡ true → public_at ds t ≡ true → becomes_public_in ds s t ≡ true
+unfolding becomes_public_in
+became-between s t ds low a off le on =
+    let f = changed-by false false low s t ds a (sym (public-walk ds s) ∙ off) le (sym (public-walk ds t) ∙ on) in
+    any-there (is_between s (At t)) (dates_where begins false ds) f.0 f.3 (lists.and-both (time_lt s f.0) (time_le f.0 t) f.1 f.2)
+
+-- where all dates are after s, what is public at a time became so after s
+pub became : (s t : Time) (ds : List Schema) → ascend_after s ds ≡ true → public_at ds t ≡ true → becomes_public_in ds s t ≡ true
+became s t ds a on = by (time_le t s) refl
+  where
+    off : (u : Time) → time_le u s ≡ true → public_at ds u ≡ false
+    off u early = public-walk ds u ∙ none-dated false s u ds a early
+
+    by : (b : Bool) → time_le t s ≡ b → becomes_public_in ds s t ≡ true
+    by true early = absurd (true≢false (sym on ∙ off t early))
+    by false late = became-between s t ds s a (off s (le-refl s)) (lt-le s t (not_le-lt s t late)) on
+
+-- what became so in an interval did in a wider one
+pub became-wider : (s t u v : Time) (ds : List Schema) → time_le u s ≡ true → time_le t v ≡ true → becomes_public_in ds s t ≡ true → becomes_public_in ds u v ≡ true
+unfolding becomes_public_in
+became-wider s t u v ds from upto is =
+    let f = any-has (is_between s (At t)) (dates_where begins false ds) is in
+    any-there (is_between u (At v)) (dates_where begins false ds) f.0 f.1
+    (lists.and-both (time_lt u f.0) (time_le f.0 v) (le-lt-lt u s f.0 from (lists.and-left (time_lt s f.0) (time_le f.0 t) f.2)) (le-trans f.0 t v (lists.and-right (time_lt s f.0) (time_le f.0 t) f.2) upto))
+
+-- the last end up to a time, of descriptors that end the table up to it
+last-ended : (e any : Time) (ds : List Schema) → time_le any e ≡ true → Has any (dates_where ends false ds) → (q : Time) × (last_end ds e ≡ Some q) × (time_le any q ≡ true) × (time_le q e ≡ true) × Has q (dates_where ends false ds)
+last-ended e any ds within has =
+    let ts = filter (λ t. time_le t e) (dates_where ends false ds) in
+    let there = has-filter (λ t. time_le t e) any (dates_where ends false ds) has within in
+    let l = latest-some ts any there in
+    (l.0, l.1, latest-greatest ts l.0 any l.1 there, filter-passes (λ t. time_le t e) l.0 (dates_where ends false ds) l.2, filter-has (λ t. time_le t e) l.0 (dates_where ends false ds) l.2)
+
+-- what was public before and isn't at e last ended after that
+pub ended-after : (x e : Time) (ds : List Schema) (low : Time) → ascend_after low ds ≡ true → public_at ds x ≡ true → time_le x e ≡ true → public_at ds e ≡ false → (q : Time) × (last_end ds e ≡ Some q) × (time_lt x q ≡ true)
+ended-after x e ds low a on le off =
+    let f = changed-by true false low x e ds a (sym (public-walk ds x) ∙ on) le (sym (public-walk ds e) ∙ off) in
+    let l = last-ended e f.0 ds f.2 f.3 in
+    (l.0, l.1, lt-le-lt x f.0 l.0 f.1 l.2)
+
 -- what was public before and isn't at e last ended at a time, since which, from no earlier one on, it wasn't public
 pub ended : (x u e : Time) (ds : List Schema) (low : Time) → ascend_after low ds ≡ true → public_at ds x ≡ true → time_le x e ≡ true → public_at ds e ≡ false
     → ((y : Time) → time_le u y ≡ true → time_le y e ≡ true → public_at ds y ≡ false) → (q : Time) × (last_end ds e ≡ Some q) × (time_lt u q ≡ false)
 ended x u e ds low a on le off untold =
-    let f = ended-by false low x e ds a (sym (public-walk ds x) ∙ on) le (sym (public-walk ds e) ∙ off) in
-    let l = latest-some (filter (λ t. time_le t e) (dates_where ends false ds)) f.0 (has-filter (λ t. time_le t e) f.0 (dates_where ends false ds) f.2 f.1) in
-    let within = filter-passes (λ t. time_le t e) l.0 (dates_where ends false ds) l.2 in
-    (l.0, l.1, never l.0 within (filter-has (λ t. time_le t e) l.0 (dates_where ends false ds) l.2) (time_lt u l.0) refl)
+    let f = changed-by true false low x e ds a (sym (public-walk ds x) ∙ on) le (sym (public-walk ds e) ∙ off) in
+    let l = last-ended e f.0 ds f.2 f.3 in
+    (l.0, l.1, never l.0 l.3 l.4 (time_lt u l.0) refl)
   where
     never : (q : Time) → time_le q e ≡ true → Has q (dates_where ends false ds) → (b : Bool) → time_lt u q ≡ b → time_lt u q ≡ false
     never q within has false is = is

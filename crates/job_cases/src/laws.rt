@@ -3,10 +3,12 @@
 use backup_job::{jobs_go_on, jobs_write_layers, started_jobs_run};
 use introduced_spans::{full_plans_are_whole, plans_stand};
 use layer_book::{last_full_is_greatest, layers_are_exact, maps_carry, subdirectories_are_exact};
+use layer_chains::{chains_show_tables, joins_are_direct};
 use layer_objects::{
     infos_are_proper, layers_are_final, layers_may_be_written, manifests_tell, pieces_are_chunks,
 };
-use layer_rows::{are_bytes, scans_are_stored};
+use restore_rows::checks_find_faults;
+use stored_chunks::are_bytes;
 
 pub fn state_all() {
     plans_stand();
@@ -20,7 +22,9 @@ pub fn state_all() {
     jobs_go_on();
     pieces_are_chunks();
     infos_are_proper();
-    scans_are_stored();
+    checks_find_faults();
+    chains_show_tables();
+    joins_are_direct();
     are_bytes(b"");
     layers_are_final();
     layers_may_be_written();

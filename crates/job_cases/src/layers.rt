@@ -6,21 +6,22 @@ use collection_dir::DirFault;
 use key_rewriter::{IdMap, are_ascending};
 use layer_manifest::{Manifest, read_manifest_bytes};
 use layer_model::LayerName;
-use layer_rows::{RestoreFault, put_rows, read_table};
 use mvcc_keys::{Blob, Entry, Hlc, Memory, Text};
 use outside_world::MemoryDisk;
+use restore_rows::{RestoreFault, put_rows, read_rows};
 use row_codec::Kind;
 use std::alloc::Global;
 use table_descriptors::{Descriptor, Name};
 use table_rows::TableRows;
 use version_store::{FactList, MvccMap, Versions};
 
-/// The bytes of a manifest, the objects of the disk, and its calls that fail.
+/// The bytes of a manifest, the objects of the disk, its calls that fail, and entries of a table.
 #[derive(Drop)]
 struct Stored {
     manifest: Vec<u8>,
     objects: Vec<(Text, Blob)>,
     fails: Vec<u64>,
+    entries: Vec<Entry>,
 }
 
 /// The names of the layer's objects begin so.
@@ -70,20 +71,49 @@ fn kinds(alloc: Global, text: &str) -> Result<Vec<Kind>, Memory> {
     Ok(kinds)
 }
 
-/// The entries of the table at a place: `0 INT`.
+/// The rows of the table at a place of the manifest: `0 INT upto 4.0`, or as of 9.0.
 fn read(alloc: Global, stored: &Stored, line: &str) -> Result<Vec<Entry>, DirFault> {
     let (place, types) = cut(line);
-    let place = number(place) as usize;
     let kinds = kinds(alloc, cut(types).0)?;
+    let upto = after(line, "upto");
+    let t = time(if upto.is_empty() { "9.0" } else { upto });
     let Ok(m) = read_manifest_bytes(alloc, &stored.manifest) else {
         return Err(DirFault::Memory);
     };
-    if place >= m.tables.as_slice().len() {
+    let table = match m.tables.as_slice().get(number(place) as usize) {
+        Some(part) => part.id,
+        None => return Err(DirFault::Memory),
+    };
+    let mut layers = Vec::new(alloc);
+    if layers.push((layer(alloc)?, m)).is_err() {
         return Err(DirFault::Memory);
     }
-    let layer = layer(alloc)?;
     let mut disk = disk(alloc, stored)?;
-    read_table(alloc, &mut disk, &layer, &m, place, &kinds)
+    read_rows(alloc, &mut disk, &layers, table, &kinds, t)
+}
+
+/// `put ec898988 5.0 8a028978`, `del ec898988 5.0` or `range ec898988 5.0 ec898a88`
+fn add_entry(alloc: Global, stored: &mut Stored, line: &str) -> Result<(), Memory> {
+    let (word, line) = cut(line);
+    let (key, line) = cut(line);
+    let (at, end) = cut(line);
+    let key = Blob::from_vec(bytes(alloc, key)?);
+    let end = Blob::from_vec(bytes(alloc, end)?);
+    let at = time(at);
+    let entry = match word {
+        "put" => Entry::Put {
+            key,
+            at,
+            value: end,
+        },
+        "del" => Entry::Del { key, at },
+        _ => Entry::Range {
+            lo: key,
+            hi: end,
+            at,
+        },
+    };
+    Ok(stored.entries.push(entry)?)
 }
 
 fn put_entry(entry: &Entry, out: &mut String) -> Result<(), Memory> {
@@ -158,7 +188,7 @@ fn put_entries(read: &Result<Vec<Entry>, DirFault>, out: &mut String) -> Result<
                 put_entry(entry, out)?;
             }
             let count = entries.len();
-            Ok(write!(out, "{count} entries\n")?)
+            Ok(write!(out, "{count} rows\n")?)
         }
         Err(fault) => put_fault(fault, FRONT, out),
     }
@@ -207,23 +237,34 @@ fn ids(alloc: Global, old: &str, new: u32) -> Result<IdMap, Memory> {
     IdMap::new(alloc, &old, new).map_err(|_| Memory)
 }
 
-/// `restore 0 INT old 100 new 105 at 9.0 as-of 9.0`
-fn restore(alloc: Global, stored: &Stored, line: &str, out: &mut String) -> Result<(), Memory> {
+/// Puts entries under a new id, over both stores.
+fn put_renamed(
+    alloc: Global,
+    stored: &Stored,
+    entries: &[Entry],
+    line: &str,
+    out: &mut String,
+) -> Result<(), Memory> {
     let Ok(m) = read_manifest_bytes(alloc, &stored.manifest) else {
         return Err(Memory);
     };
     let new = number(after(line, "new"));
     let d = renamed(alloc, &m, new)?;
     let ids = ids(alloc, after(line, "old"), new)?;
-    let Ok(entries) = read(alloc, stored, line) else {
-        return Err(Memory);
-    };
     let mut first = String::new(alloc);
     let mut second = String::new(alloc);
     let (list, map) = (FactList::new(alloc), MvccMap::new(alloc));
-    restore_over(alloc, list, &d, &ids, &entries, line, &mut first)?;
-    restore_over(alloc, map, &d, &ids, &entries, line, &mut second)?;
+    restore_over(alloc, list, &d, &ids, entries, line, &mut first)?;
+    restore_over(alloc, map, &d, &ids, entries, line, &mut second)?;
     put_both(first.as_str(), second.as_str(), out)
+}
+
+/// `restore 0 INT old 100 new 105 at 9.0 as-of 9.0`
+fn restore(alloc: Global, stored: &Stored, line: &str, out: &mut String) -> Result<(), Memory> {
+    match read(alloc, stored, line) {
+        Ok(entries) => put_renamed(alloc, stored, &entries, line, out),
+        Err(_) => Err(Memory),
+    }
 }
 
 fn set_fails(stored: &mut Stored, text: &str) -> Result<(), Memory> {
@@ -240,8 +281,10 @@ fn call(alloc: Global, stored: &mut Stored, line: &str, out: &mut String) -> Res
         "manifest" => Ok(stored.manifest = bytes(alloc, words)?),
         "object" => add_object(alloc, stored, words),
         "fails" => set_fails(stored, words),
+        "entry" => add_entry(alloc, stored, words),
         "read" => put_entries(&read(alloc, stored, words), out),
         "restore" => restore(alloc, stored, words, out),
+        "put" => put_renamed(alloc, stored, &stored.entries, words, out),
         _ => Err(Memory),
     }
 }
@@ -252,6 +295,7 @@ pub fn answer(alloc: Global, lines: &str, out: &mut String) -> Result<(), Memory
         manifest: Vec::new(alloc),
         objects: Vec::new(alloc),
         fails: Vec::new(alloc),
+        entries: Vec::new(alloc),
     };
     for line in lines.split('\n') {
         if !line.is_empty() {

@@ -68,7 +68,7 @@ module _ {K V : Type 0} (cmp : K → K → Ordering) where
       only = λ f h. absurd h;
     }
 
-    all-of : (ps : List (Share K V)) → list_any is_introduced ps ≡ false → flat (from_last is_introduced ps) ≡ flat ps
+    pub all-of : (ps : List (Share K V)) → list_any is_introduced ps ≡ false → flat (from_last is_introduced ps) ≡ flat ps
     all-of [] e = refl
     all-of (p ∷ ps) e = ap (λ (b : Bool). flat (cond b (from_last is_introduced ps) (p ∷ ps))) (none p.introduced (list_any is_introduced ps) e)
       where
@@ -87,6 +87,12 @@ module _ {K V : Type 0} (cmp : K → K → Ordering) where
         start : (c : Bool) → Start c s fs []
         start true = tt
         start false = (s, (times.le-refl s, made-nothing s fs later))
+
+    -- where one of them introduces the table they show it, whatever came before
+    pub introduced-scan : (s t : Time) (fs : List (Fact K V)) (ps : List (Share K V)) → IsApart cmp fs → list_any is_introduced ps ≡ true → AreShares cmp s t fs ps → scan cmp t (flat (from_last is_introduced ps)) ≡ scan cmp t fs
+    introduced-scan s t fs ps a e shares =
+        let made : Made t fs (flat (from_last is_introduced ps)) = subst (λ (c : Bool). Made t fs (from_here c [] ps)) e (shares-made s t fs [] ps (subst (λ (c : Bool). Start c s fs []) (sym e) tt) shares) in
+        stores.made-scan cmp o made.0 t fs (flat (from_last is_introduced ps)) a made.1.0 made.1.1
 
 -- ---- what the four kinds of entries are
 

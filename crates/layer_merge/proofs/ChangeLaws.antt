@@ -24,7 +24,7 @@ use Rattle.version_store.proofs.FactOrder.{points-sorted, points-total}
 use Rattle.layer_merge.specs.Nexts.{is_past, is_due, IsFirstDue}
 use Rattle.layer_merge.proofs.Images.{le-from_cmp}
 
-point-touches : (k : Bytes) (f : ByteFact) → is_point f ≡ true → key_of f ≡ k → touches bytes_cmp k f ≡ true
+pub point-touches : (k : Bytes) (f : ByteFact) → is_point f ≡ true → key_of f ≡ k → touches bytes_cmp k f ≡ true
 point-touches k (Fact.Put q v t) p e = ap (λ (x : Bytes). is_eq (bytes_cmp x k)) e ∙ ap is_eq (tied_itself bytes_order.total k)
 point-touches k (Fact.Del q t) p e = ap (λ (x : Bytes). is_eq (bytes_cmp x k)) e ∙ ap is_eq (tied_itself bytes_order.total k)
 point-touches k (Fact.DelRange lo hi t) p e = absurd (true≢false (sym p))
@@ -62,7 +62,7 @@ module _ (fs : List ByteFact) (apart : IsApart bytes_cmp fs) (dated : Time → B
       older g i true e = ap (λ (b : Bool). b && time_lt (date f) (date g)) e ∙ times.le-not_lt (date f) (date g) (n.last g ((listed-is g).0 i) (orders.tied bytes_cmp bytes_order (key_of g) (key_of f) e))
       older g i false e = ap (λ (b : Bool). b && time_lt (date f) (date g)) e
 
-  news-sorted : IsStrictlySortedBy (point_cmp bytes_cmp) news
+  pub news-sorted : IsStrictlySortedBy (point_cmp bytes_cmp) news
   unfolding newest_points
   news-sorted = IsStrictlySortedBy-filter (point_cmp bytes_cmp) (is_newest (points bytes_cmp dated fs)) (points bytes_cmp dated fs) (points-sorted dated fs)
 

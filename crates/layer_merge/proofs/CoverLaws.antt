@@ -51,7 +51,7 @@ module _ {K V : Type 0} (cmp : K → K → Ordering) (k : K) (t : Time) where
 
 -- ---- of entries
 
-range-fact : (e : Entry) → is_point (fact_of e) ≡ not (is_range e)
+pub range-fact : (e : Entry) → is_point (fact_of e) ≡ not (is_range e)
 range-fact (Entry.Put key at value) = refl
 range-fact (Entry.Del key at) = refl
 range-fact (Entry.Range lo hi at) = refl

@@ -16,3 +16,5 @@ pub mod ChangeSteps
 pub mod ListedRanges
 pub mod EntryLaws
 pub mod WithinLaws
+pub mod JoinLaws
+pub mod CallLaws

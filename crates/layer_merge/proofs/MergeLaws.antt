@@ -40,6 +40,9 @@ module _ (w : World) (all : List Entry) (table : ℕ) (kinds : List Kind) (v : W
 pub begun-may : (m : WalkState) (x : Load) → m.begun ≡ true → to_load m.table x m.stands ≤ may_load x m
 begun-may m x e = rw e (omega arith)
 
+pub may-begun : (m : WalkState) (x : Load) → m.begun ≡ true → may_load x m ≤ to_load m.table x m.stands
+may-begun m x e = rw e (omega arith)
+
 pub new-may : (m : WalkState) (x : Load) → m.begun ≡ false → to_load m.table x m.stands + (to_begin m.table x m.waiting + to_begin m.table x m.waiting) ≤ may_load x m
 new-may m x e = rw e (omega arith)
 

@@ -1,18 +1,20 @@
 -- Steps of a walk, one after the other.
-use Rattle.std.proofs.Common.{◌≡◌, ℕ, ◌≤◌, ◌+◌, false, sym, refl, ap, ◌∙◌, subst, List, [], ◌∷◌, ◌++◌, map, Option, Some, None, inl, inr, Result, Ok, Err, IfErr, IfOk, IfSome, arith, append_assoc, append-nil, IsPermutation, length}
+use Rattle.std.proofs.Common.{◌≡◌, ℕ, ◌≤◌, ◌+◌, false, sym, refl, ap, ◌∙◌, subst, List, [], ◌∷◌, ◌++◌, map, Option, Some, None, inl, inr, ◌⊎◌, Result, Ok, Err, Bool, IfErr, IfOk, IfSome, arith, append_assoc, append-nil, IsPermutation, length, true, cond}
+use Rattle.std.proofs.lemmas.Bool.Decides.{nat_tests}
 use Rattle.std.proofs.lemmas.List.{map-append}
 use Rattle.std.proofs.lemmas.List.Sums.{sum_by-cons, sum_by-append}
 use Rattle.std.proofs.lemmas.List.Sorted.{IsPermutation-sym, sum_by-IsPermutation}
 use Rattle.mvcc_keys.specs.declared.entries.Entry.{Entry}
 use Rattle.row_codec.specs.declared.rows.Kind.{Kind}
-use Rattle.chunk_file.specs.Chunks.{chunk_bytes, head_code}
+use Rattle.std.specs.Prelude.{◌==◌, ◌&&◌}
+use Rattle.chunk_file.specs.Chunks.{chunk_bytes, head_code, read_chunk}
 use Rattle.list_laws.proofs.Members as members
 use Rattle.layer_merge.specs.declared.chunks.MergeFault.{MergeFault}
 use Rattle.layer_merge.specs.declared.chunks.MergeFault.TheVariants.{Chunk, Malformed, Memory}
 use Rattle.layer_merge.specs.declared.ranges.Waiting.{Waiting}
 use Rattle.layer_merge.specs.Loads.{IsLoadFault, Load, load, with_load, with_loads}
 use Rattle.layer_merge.specs.Stands.{Stand, first_of, goes_on, stand}
-use Rattle.layer_merge.specs.Steps.{AreHeld, IsHeld, IsMergeFault, IsOfHeld, IsStep, last_of, loads_of, times, to_begin, to_load}
+use Rattle.layer_merge.specs.Steps.{AreHeld, IsHeld, IsLoaded, IsMergeFault, IsOfHeld, IsOutOfOrder, IsStep, MayLoad, is_load, last_of, loads_of, times, to_begin, to_load}
 
 -- ---- loads
 
@@ -51,6 +53,50 @@ begin-more table x first waiting ps ready ready' p p' e f le h = omega (arith, l
 times-push : (table : ℕ) (x : Load) (layer : ℕ) (rest : List ℕ) (n : ℕ) → times x (map (load layer table) (rest ++ n ∷ [])) ≡ times x (map (load layer table) rest) + times x (load layer table n ∷ [])
 times-push table x layer rest n = ap (times x) (map-append (load layer table) rest (n ∷ [])) ∙ times-then x (map (load layer table) rest) (load layer table n ∷ [])
 
+-- a chunk of some numbers is to be loaded
+load-itself : (x : Load) → is_load x x ≡ true
+load-itself x = by x.layer x.table x.chunk
+  where
+    same : (n : ℕ) → (n == n) ≡ true
+    same n = grind (arith, nat_tests)
+
+    by : (l t n : ℕ) → ((l == l && t == t) && n == n) ≡ true
+    by l t n = rw (same l, same t, same n) refl
+
+-- how often a load is made that is a given one, or isn't
+abbrev pub weight : Bool → ℕ
+weight b = cond b 1 0
+
+times-itself : (x : Load) (ls : List Load) → 1 ≤ times x (x ∷ ls)
+times-itself x ls =
+    let sum = sum_by-cons (λ (y : Load). cond (is_load x y) 1 0) x ls in
+    let one = ap weight (load-itself x) in
+    omega (arith, sum, one)
+
+pub may-first : (table layer n : ℕ) (numbers rest : List ℕ) → numbers ≡ n ∷ rest → 1 ≤ times (load layer table n) (loads_of table layer numbers)
+may-first table layer n numbers rest e = subst (λ (ns : List ℕ). 1 ≤ times (load layer table n) (loads_of table layer ns)) (sym e) (times-itself (load layer table n) (loads_of table layer rest))
+
+pub may-last : (table layer0 layer n : ℕ) (numbers rest : List ℕ) → numbers ≡ rest ++ n ∷ [] → layer ≡ layer0 → 1 ≤ times (load layer table n) (loads_of table layer0 numbers)
+may-last table layer0 layer n numbers rest e l =
+    let push = times-push table (load layer table n) layer rest n in
+    let one = times-itself (load layer table n) [] in
+    let here : 1 ≤ times (load layer table n) (loads_of table layer (rest ++ n ∷ [])) = omega (arith, push, one) in
+    subst (λ (y : ℕ). 1 ≤ times (load layer table n) (loads_of table y numbers)) l (subst (λ (ns : List ℕ). 1 ≤ times (load layer table n) (loads_of table layer ns)) (sym e) here)
+
+pub may-next : (table layer number n : ℕ) (entries left : List Entry) (numbers rest : List ℕ) → numbers ≡ n ∷ rest → MayLoad (λ x. to_load table x (stand layer number entries left numbers ∷ [])) table layer n
+may-next table layer number n entries left numbers rest e = let w = may-first table layer n numbers rest e in omega (arith, w)
+
+-- ---- what a call answered
+
+pub if-err : {X F : Type 0} (r : Result X (MergeFault F)) (P Q : MergeFault F → Type 0) → ((f : MergeFault F) → P f → Q f) → IfErr r P → IfErr r Q
+if-err (Ok x) P Q to h = tt
+if-err (Err f) P Q to h = to f h
+
+pub if-put : {E : Type 0} (r : Result (Option Entry) E) (P Q : Entry → Type 0) → ((e : Entry) → P e → Q e) → IfOk r (λ x. IfSome x P) → IfOk r (λ x. IfSome x Q)
+if-put (Ok None) P Q to h = tt
+if-put (Ok (Some e)) P Q to h = to e h
+if-put (Err f) P Q to h = tt
+
 -- ---- what is held
 
 -- the laws of a source of chunks
@@ -60,73 +106,85 @@ pub record AreLaws {C F : Type 0} (kept : C → C → Type 0) (came : C → C �
   pub later : (a b c : C) (layer table chunk : ℕ) (r : Result (List ℕ) F) → kept a b → came b c layer table chunk r → came a c layer table chunk r
   pub earlier : (a b c : C) (layer table chunk : ℕ) (r : Result (List ℕ) F) → came a b layer table chunk r → kept b c → came a c layer table chunk r
 
-module _ {C F : Type 0} (kept : C → C → Type 0) (came : C → C → ℕ → ℕ → ℕ → Result (List ℕ) F → Type 0) (laws : AreLaws kept came) (table : ℕ) where
-  pub held-later : (a b c : C) (xs : List Stand) (m : Stand) → IsHeld (came a b) table xs m → kept b c → IsHeld (came a c) table xs m
-  held-later a b c xs m (inl h) k = inl h
-  held-later a b c xs m (inr l) k = inr (laws.earlier a b c m.layer table m.number (Ok (chunk_bytes m.entries)) l k)
+module _ {C F : Type 0} (kept : C → C → Type 0) (came : C → C → ℕ → ℕ → ℕ → Result (List ℕ) F → Type 0) (laws : AreLaws kept came) (table : ℕ) (kinds : List Kind) where
+  pub loaded-earlier : (a b c : C) (layer number : ℕ) (es : List Entry) → IsLoaded (came a b) table kinds layer number es → kept b c → IsLoaded (came a c) table kinds layer number es
+  loaded-earlier a b c layer number es l k = record { came = laws.earlier a b c layer table number (Ok (chunk_bytes es)) l.came k; chunk = l.chunk; stored = l.stored }
 
-  pub held-then : (a b c : C) (xs ys : List Stand) (m : Stand) → kept a b → kept b c → AreHeld (came a b) table xs ys → IsHeld (came b c) table ys m → IsHeld (came a c) table xs m
-  held-then a b c xs ys m k l old (inr i) = inr (laws.later a b c m.layer table m.number (Ok (chunk_bytes m.entries)) k i)
-  held-then a b c xs ys m k l old (inl h) = by (old h.0 h.1.0)
+  pub loaded-later : (a b c : C) (layer number : ℕ) (es : List Entry) → kept a b → IsLoaded (came b c) table kinds layer number es → IsLoaded (came a c) table kinds layer number es
+  loaded-later a b c layer number es k l = record { came = laws.later a b c layer table number (Ok (chunk_bytes es)) k l.came; chunk = l.chunk; stored = l.stored }
+
+  pub held-later : (a b c : C) (asked : ℕ → ℕ → Type 0) (xs : List Stand) (m : Stand) → IsHeld (came a b) table kinds asked xs m → kept b c → IsHeld (came a c) table kinds asked xs m
+  held-later a b c asked xs m (inl h) k = inl h
+  held-later a b c asked xs m (inr l) k = inr (loaded-earlier a b c m.layer m.number m.entries l.0 k, l.1)
+
+  same-place : (P : ℕ → ℕ → List Entry → Type 0) (l l' n n' : ℕ) (es es' : List Entry) → l ≡ l' → n ≡ n' → es ≡ es' → P l' n' es' → P l n es
+  same-place P l l' n n' es es' p q r h = subst (λ (x : List Entry). P l n x) (sym r) (subst (λ (x : ℕ). P l x es') (sym q) (subst (λ (x : ℕ). P x n' es') (sym p) h))
+
+  pub held-then : (a b c : C) (asked next : ℕ → ℕ → Type 0) (xs ys : List Stand) (m : Stand) → ((l n : ℕ) → next l n → asked l n) → kept a b → kept b c → AreHeld (came a b) table kinds asked xs ys → IsHeld (came b c) table kinds next ys m → IsHeld (came a c) table kinds asked xs m
+  held-then a b c asked next xs ys m wide k l old (inr i) = inr (loaded-later a b c m.layer m.number m.entries k i.0, wide m.layer m.number i.1)
+  held-then a b c asked next xs ys m wide k l old (inl h) = by (old h.0 h.1.0)
     where
-      by : IsHeld (came a b) table xs h.0 → IsHeld (came a c) table xs m
+      by : IsHeld (came a b) table kinds asked xs h.0 → IsHeld (came a c) table kinds asked xs m
       by (inl o) = inl (o.0, (o.1.0, (h.1.1.0 ∙ o.1.1.0, h.1.1.1 ∙ o.1.1.1, h.1.1.2 ∙ o.1.1.2)))
-      by (inr i) = inr (subst (λ (es : List Entry). came a c m.layer table m.number (Ok (chunk_bytes es))) (sym h.1.1.2) (subst (λ (n : ℕ). came a c m.layer table n (Ok (chunk_bytes h.0.entries))) (sym h.1.1.1) (subst (λ (n : ℕ). came a c n table h.0.number (Ok (chunk_bytes h.0.entries))) (sym h.1.1.0) (laws.earlier a b c h.0.layer table h.0.number (Ok (chunk_bytes h.0.entries)) i l))))
+      by (inr i) = inr (same-place (λ (y n : ℕ) (es : List Entry). IsLoaded (came a c) table kinds y n es × asked y n) m.layer h.0.layer m.number h.0.number m.entries h.0.entries h.1.1.0 h.1.1.1 h.1.1.2 (loaded-earlier a b c h.0.layer h.0.number h.0.entries i.0 l, i.1))
 
-  pub held-itself : (a b : C) (xs : List Stand) → AreHeld (came a b) table xs xs
-  held-itself a b xs m h = inl (m, (h, (refl, refl, refl)))
+  pub held-itself : (a b : C) (asked : ℕ → ℕ → Type 0) (xs : List Stand) → AreHeld (came a b) table kinds asked xs xs
+  held-itself a b asked xs m h = inl (m, (h, (refl, refl, refl)))
 
   -- ---- faults
 
-  pub fault-later : (kinds : List Kind) (a b c : C) (xs : List Stand) (f : MergeFault F) → IsMergeFault (came a b) table kinds xs f → kept b c → IsMergeFault (came a c) table kinds xs f
-  fault-later kinds a b c xs (Chunk f) h k = (h.0, h.1, laws.earlier a b c h.0 table h.1 (Err f) h.2 k)
-  fault-later kinds a b c xs (Malformed l n o) (inl h) k = inl (h.0, (laws.earlier a b c l table n (Ok h.0) h.1.0 k, h.1.1))
-  fault-later kinds a b c xs (Malformed l n o) (inr h) k = inr (record { before = h.before; entries = h.entries; held = held-later a b c xs h.before h.held k; loaded = laws.earlier a b c l table n (Ok (chunk_bytes h.entries)) h.loaded k; same_layer = h.same_layer; next = h.next; order = h.order; place = h.place })
-  fault-later kinds a b c xs Memory h k = tt
+  pub fault-then : (a b c : C) (asked next : ℕ → ℕ → Type 0) (xs ys : List Stand) (f : MergeFault F) → ((l n : ℕ) → next l n → asked l n) → kept a b → kept b c → AreHeld (came a b) table kinds asked xs ys → IsMergeFault (came b c) table kinds next ys f → IsMergeFault (came a c) table kinds asked xs f
+  fault-then a b c asked next xs ys (Chunk f) wide k l old h = (h.0, h.1, (laws.later a b c h.0 table h.1 (Err f) k h.2.0, wide h.0 h.1 h.2.1))
+  fault-then a b c asked next xs ys (Malformed y n o) wide k l old h = (by h.0, wide y n h.1)
+    where
+      by : (((bytes : List ℕ) × (came b c y table n (Ok bytes) × (read_chunk table kinds bytes ≡ Err o))) ⊎ IsOutOfOrder (came b c) table kinds next ys y n o) → (((bytes : List ℕ) × (came a c y table n (Ok bytes) × (read_chunk table kinds bytes ≡ Err o))) ⊎ IsOutOfOrder (came a c) table kinds asked xs y n o)
+      by (inl i) = inl (i.0, (laws.later a b c y table n (Ok i.0) k i.1.0, i.1.1))
+      by (inr i) = inr (record { before = i.before; entries = i.entries; held = held-then a b c asked next xs ys i.before wide k l old i.held; loaded = loaded-later a b c y n i.entries k i.loaded; same_layer = i.same_layer; next = i.next; order = i.order; place = i.place })
+  fault-then a b c asked next xs ys Memory wide k l old h = tt
 
-  pub fault-then : (kinds : List Kind) (a b c : C) (xs ys : List Stand) (f : MergeFault F) → kept a b → kept b c → AreHeld (came a b) table xs ys → IsMergeFault (came b c) table kinds ys f → IsMergeFault (came a c) table kinds xs f
-  fault-then kinds a b c xs ys (Chunk f) k l old h = (h.0, h.1, laws.later a b c h.0 table h.1 (Err f) k h.2)
-  fault-then kinds a b c xs ys (Malformed y n o) k l old (inl h) = inl (h.0, (laws.later a b c y table n (Ok h.0) k h.1.0, h.1.1))
-  fault-then kinds a b c xs ys (Malformed y n o) k l old (inr h) = inr (record { before = h.before; entries = h.entries; held = held-then a b c xs ys h.before k l old h.held; loaded = laws.later a b c y table n (Ok (chunk_bytes h.entries)) k h.loaded; same_layer = h.same_layer; next = h.next; order = h.order; place = h.place })
-  fault-then kinds a b c xs ys Memory k l old h = tt
+  pub of-held-then : (a b c : C) (asked next : ℕ → ℕ → Type 0) (xs ys : List Stand) (e : Entry) → ((l n : ℕ) → next l n → asked l n) → kept a b → kept b c → AreHeld (came a b) table kinds asked xs ys → IsOfHeld (came b c) table kinds next ys e → IsOfHeld (came a c) table kinds asked xs e
+  of-held-then a b c asked next xs ys e wide k l old h = (h.0, (held-then a b c asked next xs ys h.0 wide k l old h.1.0, h.1.1))
 
-  pub of-held-then : (a b c : C) (xs ys : List Stand) (e : Entry) → kept a b → kept b c → AreHeld (came a b) table xs ys → IsOfHeld (came b c) table ys e → IsOfHeld (came a c) table xs e
-  of-held-then a b c xs ys e k l old h = (h.0, (held-then a b c xs ys h.0 k l old h.1.0, h.1.1))
+  -- what may be asked for is wider
+  pub fault-asked : (a b : C) (asked next : ℕ → ℕ → Type 0) (xs : List Stand) (f : MergeFault F) → ((l n : ℕ) → next l n → asked l n) → kept a b → IsMergeFault (came a b) table kinds next xs f → IsMergeFault (came a b) table kinds asked xs f
+  fault-asked a b asked next xs f wide k h = fault-then a a b asked next xs xs f wide (laws.same a) k (held-itself a a asked xs) h
 
-  pub load-fault : (kinds : List Kind) (a b : C) (xs : List Stand) (layer number : ℕ) (f : MergeFault F) → IsLoadFault (came a b) table kinds layer number f → IsMergeFault (came a b) table kinds xs f
-  load-fault kinds a b xs layer number (Chunk f) h = (layer, number, h)
-  load-fault kinds a b xs layer number (Malformed l n o) h = inl (h.2, (subst (λ (y : ℕ). came a b y table n (Ok h.2)) (sym h.0) (subst (λ (y : ℕ). came a b layer table y (Ok h.2)) (sym h.1) h.3), h.4))
-  load-fault kinds a b xs layer number Memory h = tt
+  pub load-fault : (a b : C) (asked : ℕ → ℕ → Type 0) (xs : List Stand) (layer number : ℕ) (f : MergeFault F) → asked layer number → IsLoadFault (came a b) table kinds layer number f → IsMergeFault (came a b) table kinds asked xs f
+  load-fault a b asked xs layer number (Chunk f) k h = (layer, number, (h, k))
+  load-fault a b asked xs layer number (Malformed l n o) k h = (
+    inl (h.2, (subst (λ (y : ℕ). came a b y table n (Ok h.2)) (sym h.0) (subst (λ (y : ℕ). came a b layer table y (Ok h.2)) (sym h.1) h.3), h.4)),
+    subst (λ (y : ℕ). asked y n) (sym h.0) (subst (λ (y : ℕ). asked layer y) (sym h.1) k),
+  )
+  load-fault a b asked xs layer number Memory k h = tt
 
-  pub order-fault : (kinds : List Kind) (a b : C) (layer number n offset : ℕ) (entries left after : List Entry) (numbers : List ℕ) → came a b layer table n (Ok (chunk_bytes after)) → n ≡ number + 1 → goes_on (last_of entries) (first_of after) ≡ false → offset ≡ length (head_code after) → IsMergeFault (came a b) table kinds (stand layer number entries left numbers ∷ []) (Malformed layer n offset)
-  order-fault kinds a b layer number n offset entries left after numbers l e o p = inr (record { before = stand layer number entries left numbers; entries = after; held = inl (stand layer number entries left numbers, (inl refl, (refl, refl, refl))); loaded = l; same_layer = refl; next = e; order = o; place = p })
+  pub order-fault : (a b : C) (asked : ℕ → ℕ → Type 0) (layer number n offset : ℕ) (entries left after : List Entry) (numbers : List ℕ) → IsLoaded (came a b) table kinds layer n after → asked layer n → n ≡ number + 1 → goes_on (last_of entries) (first_of after) ≡ false → offset ≡ length (head_code after) → IsMergeFault (came a b) table kinds asked (stand layer number entries left numbers ∷ []) (Malformed layer n offset)
+  order-fault a b asked layer number n offset entries left after numbers l k e o p = (inr (record { before = stand layer number entries left numbers; entries = after; held = inl (stand layer number entries left numbers, (inl refl, (refl, refl, refl))); loaded = l; same_layer = refl; next = e; order = o; place = p }), k)
 
   -- both chunks were loaded
-  pub loads-fault : (kinds : List Kind) (a b : C) (xs : List Stand) (layer number n offset : ℕ) (entries after : List Entry) → came a b layer table number (Ok (chunk_bytes entries)) → came a b layer table n (Ok (chunk_bytes after)) → n ≡ number + 1 → goes_on (last_of entries) (first_of after) ≡ false → offset ≡ length (head_code after) → IsMergeFault (came a b) table kinds xs (Malformed layer n offset)
-  loads-fault kinds a b xs layer number n offset entries after k l e o p = inr (record { before = stand layer number entries [] []; entries = after; held = inr k; loaded = l; same_layer = refl; next = e; order = o; place = p })
-
-  pub if-err : {X : Type 0} (r : Result X (MergeFault F)) (P Q : MergeFault F → Type 0) → ((f : MergeFault F) → P f → Q f) → IfErr r P → IfErr r Q
-  if-err (Ok x) P Q to h = tt
-  if-err (Err f) P Q to h = to f h
-
-  pub if-put : {E : Type 0} (r : Result (Option Entry) E) (P Q : Entry → Type 0) → ((e : Entry) → P e → Q e) → IfOk r (λ x. IfSome x P) → IfOk r (λ x. IfSome x Q)
-  if-put (Ok None) P Q to h = tt
-  if-put (Ok (Some e)) P Q to h = to e h
-  if-put (Err f) P Q to h = tt
+  pub loads-fault : (a b : C) (asked : ℕ → ℕ → Type 0) (xs : List Stand) (layer number n offset : ℕ) (entries after : List Entry) → IsLoaded (came a b) table kinds layer number entries → asked layer number → IsLoaded (came a b) table kinds layer n after → asked layer n → n ≡ number + 1 → goes_on (last_of entries) (first_of after) ≡ false → offset ≡ length (head_code after) → IsMergeFault (came a b) table kinds asked xs (Malformed layer n offset)
+  loads-fault a b asked xs layer number n offset entries after k i l j e o p = (inr (record { before = stand layer number entries [] []; entries = after; held = inr (k, i); loaded = l; same_layer = refl; next = e; order = o; place = p }), j)
 
   -- ---- steps
 
   module _ (loads : C → Option (List Load)) where
     abbrev Step : C → C → List Stand → List Stand → (Load → ℕ) → (Load → ℕ) → Type 0
-    Step a b xs ys p q = IsStep kept came loads table a b xs ys p q
+    Step a b xs ys p q = IsStep kept came loads table kinds a b xs ys p q
+
+    -- what may still be loaded after a step might be loaded before it
+    pub step-asked : (a b : C) (xs ys : List Stand) (p q : Load → ℕ) → Step a b xs ys p q → (l n : ℕ) → MayLoad q table l n → MayLoad p table l n
+    step-asked a b xs ys p q s l n h = omega (arith, s.bound (load l table n), h)
+
+    -- what is held after a step
+    pub step-held : (a b : C) (xs ys : List Stand) (p q : Load → ℕ) → Step a b xs ys p q → AreHeld (came a b) table kinds (MayLoad p table) xs ys
+    step-held a b xs ys p q s = s.held
 
     pub step-none : (a : C) (xs : List Stand) (p : Load → ℕ) → Step a a xs xs p p
-    step-none a xs p = record { kept = laws.same a; held = held-itself a a xs; more = []; told = loads-none (loads a); bound = λ x. omega arith }
+    step-none a xs p = record { kept = laws.same a; held = held-itself a a (MayLoad p table) xs; more = []; told = loads-none (loads a); bound = λ x. omega arith }
 
     pub step-then : (a b c : C) (xs ys zs : List Stand) (p q r : Load → ℕ) → Step a b xs ys p q → Step b c ys zs q r → Step a c xs zs p r
     step-then a b c xs ys zs p q r s t = record {
       kept = laws.chain a b c s.kept t.kept;
-      held = λ m h. held-then a b c xs ys m s.kept t.kept s.held (t.held m h);
+      held = λ m h. held-then a b c (MayLoad p table) (MayLoad q table) xs ys m (step-asked a b xs ys p q s) s.kept t.kept s.held (t.held m h);
       more = s.more ++ t.more;
       told = told-then s.more t.more (loads a) (loads b) (loads c) s.told t.told;
       bound = λ x. omega (arith, times-then x s.more t.more, s.bound x, t.bound x);
@@ -134,13 +192,13 @@ module _ {C F : Type 0} (kept : C → C → Type 0) (came : C → C → ℕ → 
 
     -- bounds that are wider
     pub step-bounds : (a b : C) (xs ys : List Stand) (p q p' q' : Load → ℕ) → ((x : Load) → p x ≤ p' x) → ((x : Load) → q' x ≤ q x) → Step a b xs ys p q → Step a b xs ys p' q'
-    step-bounds a b xs ys p q p' q' le ge s = record { kept = s.kept; held = s.held; more = s.more; told = s.told; bound = λ x. omega (arith, s.bound x, le x, ge x) }
+    step-bounds a b xs ys p q p' q' le ge s = record { kept = s.kept; held = λ m h. held-then a a b (MayLoad p' table) (MayLoad p table) xs xs m (λ l n i. omega (arith, le (load l table n), i)) (laws.same a) s.kept (held-itself a a (MayLoad p' table) xs) (s.held m h); more = s.more; told = s.told; bound = λ x. omega (arith, s.bound x, le x, ge x) }
 
     -- other stands stay beside those that moved
     step-beside : (a b : C) (xs ys zs : List Stand) (p q : Load → ℕ) → Step a b xs ys p q → Step a b (xs ++ zs) (ys ++ zs) (λ x. p x + to_load table x zs) (λ x. q x + to_load table x zs)
     step-beside a b xs ys zs p q s = record {
       kept = s.kept;
-      held = λ m h. elim (members.has-append_cases m ys zs h) [ inl i ↦ elim (s.held m i) [ inl o ↦ inl (o.0, (members.has-append_left o.0 xs zs o.1.0, o.1.1)) | inr l ↦ inr l ] | inr j ↦ inl (m, (members.has-append_right m xs zs j, (refl, refl, refl))) ];
+      held = λ m h. elim (members.has-append_cases m ys zs h) [ inl i ↦ elim (s.held m i) [ inl o ↦ inl (o.0, (members.has-append_left o.0 xs zs o.1.0, o.1.1)) | inr l ↦ inr (l.0, (let w = l.1 in omega (arith, w))) ] | inr j ↦ inl (m, (members.has-append_right m xs zs j, (refl, refl, refl))) ];
       more = s.more;
       told = s.told;
       bound = λ x. omega (arith, s.bound x);
@@ -169,6 +227,12 @@ module _ {C F : Type 0} (kept : C → C → Type 0) (came : C → C → ℕ → 
       bound = λ x. omega (arith, s.bound x, load-append table x ys zs);
     }
 
+    -- all stands but the first are lost
+    step-one : (a b : C) (first h0 h1 : List Stand) (s : Stand) (p : Load → ℕ) → IsPermutation h0 (s ∷ h1) → Step a b first h0 p (λ x. to_load table x h0) → Step a b first (s ∷ []) p (λ x. to_load table x (s ∷ []))
+    step-one a b first h0 h1 s p per one =
+        let t = step-permuted a b first h0 (s ∷ h1) p per one in
+        record { kept = t.kept; held = λ m. elim [ inl i ↦ t.held m (inl i) | inr i ↦ absurd i ]; more = t.more; told = t.told; bound = λ x. omega (arith, t.bound x, load-append table x (s ∷ []) h1) }
+
     pub step-lost : (a b : C) (xs ys : List Stand) (p q : Load → ℕ) → Step a b xs ys p q → Step a b xs [] p (λ x. 0)
     step-lost a b xs ys p q s = record { kept = s.kept; held = λ m h. absurd h; more = s.more; told = s.told; bound = λ x. omega (arith, s.bound x) }
 
@@ -185,9 +249,17 @@ module _ {C F : Type 0} (kept : C → C → Type 0) (came : C → C → ℕ → 
     pub step-dropped : (a b c : C) (first h0 h1 h2 ys : List Stand) (s : Stand) (p : Load → ℕ) → h2 ≡ h1 → IsPermutation h0 (s ∷ h1) → Step a b first h0 p (λ x. to_load table x h0) → Step b c (s ∷ []) ys (λ x. to_load table x (s ∷ [])) (λ x. to_load table x ys) → Step a c first h2 p (λ x. to_load table x h2)
     step-dropped a b c first h0 h1 h2 ys s p e per one two = subst (λ (h : List Stand). Step a c first h p (λ x. to_load table x h)) (sym e) (step-fewer a c first ys h1 p (step-over a b c first h0 h1 ys s p per one two))
 
+    -- a fault after a step
+    pub fault-after : (a b c : C) (xs ys : List Stand) (p q : Load → ℕ) (f : MergeFault F) → Step a b xs ys p q → kept b c → IsMergeFault (came b c) table kinds (MayLoad q table) ys f → IsMergeFault (came a c) table kinds (MayLoad p table) xs f
+    fault-after a b c xs ys p q f s k h = fault-then a b c (MayLoad p table) (MayLoad q table) xs ys f (step-asked a b xs ys p q s) s.kept k s.held h
+
+    -- an entry of a chunk that is held after a step
+    pub of-held-after : (a b c : C) (xs ys : List Stand) (p q : Load → ℕ) (e : Entry) → Step a b xs ys p q → kept b c → IsOfHeld (came b c) table kinds (MayLoad q table) ys e → IsOfHeld (came a c) table kinds (MayLoad p table) xs e
+    of-held-after a b c xs ys p q e s k h = (h.0, (held-then a b c (MayLoad p table) (MayLoad q table) xs ys h.0 (step-asked a b xs ys p q s) s.kept k s.held h.1.0, h.1.1))
+
     -- a fault of the first of some stands
-    pub fault-over : (kinds : List Kind) (a b c : C) (first h0 h1 : List Stand) (s : Stand) (p q : Load → ℕ) (f : MergeFault F) → IsPermutation h0 (s ∷ h1) → Step a b first h0 p q → kept b c → IsMergeFault (came b c) table kinds (s ∷ []) f → IsMergeFault (came a c) table kinds first f
-    fault-over kinds a b c first h0 h1 s p q f per one k h = fault-then kinds a b c first (s ∷ []) f one.kept k (λ m. elim [ inl i ↦ one.held m (members.permuted-in (s ∷ h1) h0 (IsPermutation-sym h0 (s ∷ h1) per) m (inl i)) | inr i ↦ absurd i ]) h
+    pub fault-over : (a b c : C) (first h0 h1 : List Stand) (s : Stand) (p : Load → ℕ) (f : MergeFault F) → IsPermutation h0 (s ∷ h1) → Step a b first h0 p (λ x. to_load table x h0) → kept b c → IsMergeFault (came b c) table kinds (MayLoad (λ x. to_load table x (s ∷ [])) table) (s ∷ []) f → IsMergeFault (came a c) table kinds (MayLoad p table) first f
+    fault-over a b c first h0 h1 s p f per one k h = fault-after a b c first (s ∷ []) p (λ x. to_load table x (s ∷ [])) f (step-one a b first h0 h1 s p per one) k h
 
     -- ---- one stand
 
@@ -201,10 +273,10 @@ module _ {C F : Type 0} (kept : C → C → Type 0) (came : C → C → ℕ → 
     }
 
     -- the next chunk is loaded
-    pub step-loaded : (a b : C) (layer number n : ℕ) (entries left after : List Entry) (numbers rest : List ℕ) (m : Stand) → m ≡ stand layer n after after rest → numbers ≡ n ∷ rest → kept a b → came a b layer table n (Ok (chunk_bytes after)) → loads b ≡ with_load layer table n (loads a) → Step a b (stand layer number entries left numbers ∷ []) (m ∷ []) (λ x. to_load table x (stand layer number entries left numbers ∷ [])) (λ x. to_load table x (m ∷ []))
+    pub step-loaded : (a b : C) (layer number n : ℕ) (entries left after : List Entry) (numbers rest : List ℕ) (m : Stand) → m ≡ stand layer n after after rest → numbers ≡ n ∷ rest → kept a b → IsLoaded (came a b) table kinds layer n after → loads b ≡ with_load layer table n (loads a) → Step a b (stand layer number entries left numbers ∷ []) (m ∷ []) (λ x. to_load table x (stand layer number entries left numbers ∷ [])) (λ x. to_load table x (m ∷ []))
     step-loaded a b layer number n entries left after numbers rest m same e k l t = record {
       kept = k;
-      held = λ y. elim [ inl i ↦ inr (subst (λ (z : Stand). came a b z.layer table z.number (Ok (chunk_bytes z.entries))) (sym (i ∙ same)) l) | inr i ↦ absurd i ];
+      held = λ y. elim [ inl i ↦ inr (subst (λ (z : Stand). IsLoaded (came a b) table kinds z.layer z.number z.entries × MayLoad (λ x. to_load table x (stand layer number entries left numbers ∷ [])) table z.layer z.number) (sym (i ∙ same)) (l, (let w = may-first table layer n numbers rest e in omega (arith, w)))) | inr i ↦ absurd i ];
       more = load layer table n ∷ [];
       told = t;
       bound = λ x. omega (arith, ap (λ (z : Stand). to_load table x (z ∷ [])) same, ap (λ (ns : List ℕ). times x (map (load layer table) ns)) e, times-then x (load layer table n ∷ []) (map (load layer table) rest));
@@ -235,6 +307,9 @@ module _ {C F : Type 0} (kept : C → C → Type 0) (came : C → C → ℕ → 
       bound = λ x. omega (arith, one.bound x, times-then x one.more (load layer table n ∷ []), ap (λ (z : ℕ). times x (load z table n ∷ [])) l, ap (λ (ns : List ℕ). times x (map (load layer0 table) ns)) e, times-push table x layer0 rest n);
     }
 
+    pub range-asked : (a b : C) (layer0 layer n : ℕ) (first numbers rest : List ℕ) → numbers ≡ rest ++ n ∷ [] → layer ≡ layer0 → Step a b [] [] (λ x. times x (map (load layer0 table) first)) (λ x. times x (map (load layer0 table) numbers)) → MayLoad (λ x. times x (map (load layer0 table) first)) table layer n
+    range-asked a b layer0 layer n first numbers rest e l one = step-asked a b [] [] (λ x. times x (map (load layer0 table) first)) (λ x. times x (map (load layer0 table) numbers)) one layer n (may-last table layer0 layer n numbers rest e l)
+
     pub step-part : (a b c : C) (first waiting ps : List Waiting) (p : Waiting) → waiting ≡ p ∷ ps → Step a b [] [] (λ x. to_begin table x first) (λ x. to_begin table x waiting) → Step b c [] [] (λ x. times x (loads_of table p.layer p.numbers.items)) (λ x. 0) → Step a c [] [] (λ x. to_begin table x first) (λ x. to_begin table x ps)
     step-part a b c first waiting ps p e one two =
         step-then a b c [] [] [] (λ x. to_begin table x first) (λ x. to_begin table x waiting) (λ x. to_begin table x ps) one
@@ -242,10 +317,10 @@ module _ {C F : Type 0} (kept : C → C → Type 0) (came : C → C → ℕ → 
 
     -- ---- the start of the walk of the points
 
-    pub step-first : (a b : C) (part : Waiting) (n : ℕ) (rest : List ℕ) (after : List Entry) (m : Stand) → m ≡ stand part.layer n after after rest → part.numbers.items ≡ n ∷ rest → kept a b → came a b part.layer table n (Ok (chunk_bytes after)) → loads b ≡ with_load part.layer table n (loads a) → Step a b [] (m ∷ []) (λ x. times x (loads_of table part.layer part.numbers.items)) (λ x. to_load table x (m ∷ []))
+    pub step-first : (a b : C) (part : Waiting) (n : ℕ) (rest : List ℕ) (after : List Entry) (m : Stand) → m ≡ stand part.layer n after after rest → part.numbers.items ≡ n ∷ rest → kept a b → IsLoaded (came a b) table kinds part.layer n after → loads b ≡ with_load part.layer table n (loads a) → Step a b [] (m ∷ []) (λ x. times x (loads_of table part.layer part.numbers.items)) (λ x. to_load table x (m ∷ []))
     step-first a b part n rest after m same e k l t = record {
       kept = k;
-      held = λ y. elim [ inl i ↦ inr (subst (λ (z : Stand). came a b z.layer table z.number (Ok (chunk_bytes z.entries))) (sym (i ∙ same)) l) | inr i ↦ absurd i ];
+      held = λ y. elim [ inl i ↦ inr (subst (λ (z : Stand). IsLoaded (came a b) table kinds z.layer z.number z.entries × MayLoad (λ x. times x (loads_of table part.layer part.numbers.items)) table z.layer z.number) (sym (i ∙ same)) (l, may-first table part.layer n part.numbers.items rest e)) | inr i ↦ absurd i ];
       more = load part.layer table n ∷ [];
       told = t;
       bound = λ x. omega (arith, ap (λ (z : Stand). to_load table x (z ∷ [])) same, ap (λ (ns : List ℕ). times x (map (load part.layer table) ns)) e, times-then x (load part.layer table n ∷ []) (map (load part.layer table) rest));
@@ -269,7 +344,7 @@ module _ {C F : Type 0} (kept : C → C → Type 0) (came : C → C → ℕ → 
         step-then a b c first h1 (ys ++ h1) before (λ x. to_load table x h1 + to_begin table x ready) (λ x. to_load table x (ys ++ h1) + to_begin table x ps) one
         (record {
           kept = two.kept;
-          held = λ m h. elim (members.has-append_cases m ys h1 h) [ inl i ↦ elim (two.held m i) [ inl o ↦ absurd o.1.0 | inr l ↦ inr l ] | inr j ↦ inl (m, (j, (refl, refl, refl))) ];
+          held = λ m h. elim (members.has-append_cases m ys h1 h) [ inl i ↦ elim (two.held m i) [ inl o ↦ absurd o.1.0 | inr l ↦ inr (l.0, (let x = load m.layer table m.number in let w = l.1 in omega (arith, w, ap (to_begin table x) e, begin-cons table x p ps))) ] | inr j ↦ inl (m, (j, (refl, refl, refl))) ];
           more = two.more;
           told = two.told;
           bound = λ x. omega (arith, two.bound x, load-append table x ys h1, ap (to_begin table x) e, begin-cons table x p ps);
@@ -285,14 +360,17 @@ module _ {C F : Type 0} (kept : C → C → Type 0) (came : C → C → ℕ → 
     step-unbegun a b c first h1 h2 ys ready ps p before same e one two = subst (λ (h : List Stand). Step a c first h before (λ x. to_load table x h)) (sym same) (
         step-fewer a c first ys h1 before (step-bounds a c first (ys ++ h1) before (λ x. to_load table x (ys ++ h1) + to_begin table x ps) before (λ x. to_load table x (ys ++ h1)) (λ x. omega arith) (λ x. omega arith) (step-beginning a b c first h1 ys ready ps p before e one two)))
 
+    -- the ranges were walked
+    step-ready : (a b : C) (first : List Stand) (waiting ready : List Waiting) → ((x : Load) → to_begin table x ready ≤ to_begin table x waiting) → Step a b [] [] (λ x. to_begin table x waiting) (λ x. 0) → Step a b first first (λ x. to_load table x first + (to_begin table x waiting + to_begin table x waiting)) (λ x. to_load table x first + to_begin table x ready)
+    step-ready a b first waiting ready fewer one = record { kept = one.kept; held = held-itself a b (MayLoad (λ x. to_load table x first + (to_begin table x waiting + to_begin table x waiting)) table) first; more = one.more; told = one.told; bound = λ x. omega (arith, one.bound x, fewer x) }
+
     -- ranges first, then the first chunks
     pub step-start : (a b c : C) (first stands : List Stand) (waiting ready : List Waiting) → ((x : Load) → to_begin table x ready ≤ to_begin table x waiting) → Step a b [] [] (λ x. to_begin table x waiting) (λ x. 0) → Step b c first stands (λ x. to_load table x first + to_begin table x ready) (λ x. to_load table x stands) → Step a c first stands (λ x. to_load table x first + (to_begin table x waiting + to_begin table x waiting)) (λ x. to_load table x stands)
     step-start a b c first stands waiting ready fewer one two =
-        step-then a b c first first stands (λ x. to_load table x first + (to_begin table x waiting + to_begin table x waiting)) (λ x. to_load table x first + to_begin table x ready) (λ x. to_load table x stands)
-        (record { kept = one.kept; held = held-itself a b first; more = one.more; told = one.told; bound = λ x. omega (arith, one.bound x, fewer x) }) two
+        step-then a b c first first stands (λ x. to_load table x first + (to_begin table x waiting + to_begin table x waiting)) (λ x. to_load table x first + to_begin table x ready) (λ x. to_load table x stands) (step-ready a b first waiting ready fewer one) two
 
     pub step-unstarted : (a b : C) (first : List Stand) (waiting : List Waiting) → Step a b [] [] (λ x. to_begin table x waiting) (λ x. 0) → Step a b first first (λ x. to_load table x first + (to_begin table x waiting + to_begin table x waiting)) (λ x. to_load table x first)
-    step-unstarted a b first waiting one = record { kept = one.kept; held = held-itself a b first; more = one.more; told = one.told; bound = λ x. omega (arith, one.bound x) }
+    step-unstarted a b first waiting one = record { kept = one.kept; held = held-itself a b (MayLoad (λ x. to_load table x first + (to_begin table x waiting + to_begin table x waiting)) table) first; more = one.more; told = one.told; bound = λ x. omega (arith, one.bound x) }
 
     -- the loads of the chunks that are left of a part
     pub fewer-left : (a b : C) (layer0 layer n : ℕ) (first numbers rest back : List ℕ) → numbers ≡ rest ++ n ∷ [] → back ≡ rest ++ n ∷ [] → layer ≡ layer0 → Step a b [] [] (λ x. times x (map (load layer0 table) first)) (λ x. times x (map (load layer0 table) numbers)) → (x : Load) → times x (map (load layer table) back) ≤ times x (map (load layer0 table) first)
@@ -305,9 +383,27 @@ module _ {C F : Type 0} (kept : C → C → Type 0) (came : C → C → ℕ → 
     pub step-all : (a b : C) (xs ys : List Stand) (p q r : Load → ℕ) → Step a b xs ys p (λ x. q x + r x) → Step a b xs ys p q
     step-all a b xs ys p q r s = record { kept = s.kept; held = s.held; more = s.more; told = s.told; bound = λ x. omega (arith, s.bound x) }
 
+    pub part-fault : (a b c : C) (first waiting ps : List Waiting) (p : Waiting) (f : MergeFault F) → waiting ≡ p ∷ ps → Step a b [] [] (λ x. to_begin table x first) (λ x. to_begin table x waiting) → kept b c → IsMergeFault (came b c) table kinds (MayLoad (λ x. times x (loads_of table p.layer p.numbers.items)) table) [] f → IsMergeFault (came a c) table kinds (MayLoad (λ x. to_begin table x first) table) [] f
+    part-fault a b c first waiting ps p f e one k h = fault-after a b c [] [] (λ x. to_begin table x first) (λ x. times x (loads_of table p.layer p.numbers.items)) f (step-bounds a b [] [] (λ x. to_begin table x first) (λ x. to_begin table x waiting) (λ x. to_begin table x first) (λ x. times x (loads_of table p.layer p.numbers.items)) (λ x. omega arith) (λ x. omega (arith, ap (to_begin table x) e, begin-cons table x p ps)) one) k h
+
+    pub begin-fault : (a b c : C) (first h1 : List Stand) (ready ps : List Waiting) (p : Waiting) (before : Load → ℕ) (f : MergeFault F) → ready ≡ p ∷ ps → Step a b first h1 before (λ x. to_load table x h1 + to_begin table x ready) → kept b c → IsMergeFault (came b c) table kinds (MayLoad (λ x. times x (loads_of table p.layer p.numbers.items)) table) [] f → IsMergeFault (came a c) table kinds (MayLoad before table) first f
+    begin-fault a b c first h1 ready ps p before f e one k h =
+        let lost = step-lost a b first h1 before (λ x. to_load table x h1 + to_begin table x ready) one in
+        fault-after a b c first [] before (λ x. times x (loads_of table p.layer p.numbers.items)) f (record { kept = lost.kept; held = lost.held; more = one.more; told = one.told; bound = λ x. omega (arith, one.bound x, ap (to_begin table x) e, begin-cons table x p ps) }) k h
+
+    pub start-fault : (a b c : C) (first : List Stand) (waiting ready : List Waiting) (f : MergeFault F) → ((x : Load) → to_begin table x ready ≤ to_begin table x waiting) → Step a b [] [] (λ x. to_begin table x waiting) (λ x. 0) → kept b c → IsMergeFault (came b c) table kinds (MayLoad (λ x. to_load table x first + to_begin table x ready) table) first f → IsMergeFault (came a c) table kinds (MayLoad (λ x. to_load table x first + (to_begin table x waiting + to_begin table x waiting)) table) first f
+    start-fault a b c first waiting ready f fewer one k h = fault-after a b c first first (λ x. to_load table x first + (to_begin table x waiting + to_begin table x waiting)) (λ x. to_load table x first + to_begin table x ready) f (step-ready a b first waiting ready fewer one) k h
+
     -- a fault of a walk that began with nothing
-    pub fault-none : (kinds : List Kind) (a b : C) (xs : List Stand) (f : MergeFault F) → kept a b → IsMergeFault (came a b) table kinds [] f → IsMergeFault (came a b) table kinds xs f
-    fault-none kinds a b xs f k h = fault-then kinds a a b xs [] f (laws.same a) k (λ m i. absurd i) h
+    fault-none : (a b : C) (xs : List Stand) (p q : Load → ℕ) (f : MergeFault F) → ((x : Load) → q x ≤ p x) → kept a b → IsMergeFault (came a b) table kinds (MayLoad q table) [] f → IsMergeFault (came a b) table kinds (MayLoad p table) xs f
+    fault-none a b xs p q f le k h = fault-then a a b (MayLoad p table) (MayLoad q table) xs [] f (λ l n i. omega (arith, le (load l table n), i)) (laws.same a) k (λ m i. absurd i) h
+
+    pub unstarted-fault : (a b : C) (first : List Stand) (waiting : List Waiting) (f : MergeFault F) → kept a b → IsMergeFault (came a b) table kinds (MayLoad (λ x. to_begin table x waiting) table) [] f → IsMergeFault (came a b) table kinds (MayLoad (λ x. to_load table x first + (to_begin table x waiting + to_begin table x waiting)) table) first f
+    unstarted-fault a b first waiting f k h = fault-none a b first (λ x. to_load table x first + (to_begin table x waiting + to_begin table x waiting)) (λ x. to_begin table x waiting) f (λ x. omega arith) k h
+
+    -- a fault of a walk that might load less
+    pub fault-before : (a b : C) (xs : List Stand) (p q : Load → ℕ) (f : MergeFault F) → ((x : Load) → q x ≤ p x) → kept a b → IsMergeFault (came a b) table kinds (MayLoad q table) xs f → IsMergeFault (came a b) table kinds (MayLoad p table) xs f
+    fault-before a b xs p q f le k h = fault-asked a b (MayLoad p table) (MayLoad q table) xs f (λ l n i. omega (arith, le (load l table n), i)) k h
 
     pub step-before : (a b : C) (xs ys : List Stand) (p p' q : Load → ℕ) → ((x : Load) → p x ≤ p' x) → Step a b xs ys p q → Step a b xs ys p' q
     step-before a b xs ys p p' q le s = step-bounds a b xs ys p q p' q le (λ x. omega arith) s

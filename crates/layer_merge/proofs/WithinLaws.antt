@@ -1,6 +1,8 @@
 -- A merge over the chunks that may hold a key that is asked for shows of these keys what all chunks show.
-use Rattle.std.proofs.Common.{◌≡◌, ◌≤◌, ◌+◌, ℕ, zero, suc, Bool, true, false, cond, ◌&&◌, sym, refl, ap, ap₂, ◌∙◌, subst, List, [], ◌∷◌, ◌++◌, filter, map, slice_get, Option, Some, None, inl, inr, Ordering, Less, Equal, Greater, is_eq, is_lt, true≢false, sum_by, arith}
+use Rattle.std.proofs.Common.{◌≡◌, ◌≤◌, ◌<◌, ◌+◌, ℕ, zero, suc, Bool, true, false, cond, ◌&&◌, sym, refl, ap, ap₂, ◌∙◌, subst, List, [], ◌∷◌, ◌++◌, filter, map, slice_get, Option, Some, None, inl, inr, Ordering, Less, Equal, Greater, is_eq, is_lt, true≢false, sum_by, arith}
 use Rattle.std.specs.List.{range_with_len}
+use Rattle.std.specs.Prelude.{◌==◌}
+use Rattle.std.proofs.lemmas.Bool.Decides.{nat_tests}
 use Rattle.std.specs.List.Sorted.{IsStrictlySortedBy}
 use Rattle.std.specs.Cmp.{IsTotalOrder}
 use Rattle.std.specs.Ordering.{is_le, on}
@@ -29,18 +31,18 @@ use Rattle.layer_merge.specs.declared.parts.Part.{Part}
 use Rattle.layer_merge.specs.declared.ranges.Waiting.{Waiting}
 use Rattle.layer_merge.specs.declared.wanted.Wanted.{Wanted}
 use Rattle.layer_merge.specs.FromLast.{from_last}
-use Rattle.layer_merge.specs.Loads.{Load, World}
+use Rattle.layer_merge.specs.Loads.{Load, World, load}
 use Rattle.layer_merge.specs.Nexts.{to_come}
-use Rattle.layer_merge.specs.Parts.{AreProper, AreWaiting, counted_entries, entries_of_part, entries_of_parts, is_introduced, merge_rows}
+use Rattle.layer_merge.specs.Parts.{AreProper, AreWaiting, IsCountedChunk, counted_entries, entries_of_part, entries_of_parts, is_introduced, merge_rows}
 use Rattle.layer_merge.specs.Ranges.{AreDated}
 use Rattle.layer_merge.specs.Rows.{is_asked, put_of, rows_left}
-use Rattle.layer_merge.specs.Stands.{entries_in, is_below}
+use Rattle.layer_merge.specs.Stands.{Stand, entries_in, is_below}
 use Rattle.layer_merge.specs.Starts.{AreInOrder, part_entries, parts_entries}
-use Rattle.layer_merge.specs.Steps.{loads_of, times, to_begin, to_load}
-use Rattle.layer_merge.specs.Walks.{IsAtWork, MergesOver, WalkState, may_load}
-use Rattle.layer_merge.specs.Within.{AreAsked, AreBounded, entries_asked, keys_within, loads_asked, may_hold, reaches, rows_within, wanted_entries, wanted_loads, wanted_numbers}
+use Rattle.layer_merge.specs.Steps.{is_load, loads_of, times, to_begin, to_load}
+use Rattle.layer_merge.specs.Walks.{IsAtWork, IsToLoad, MergesOver, WalkState, may_load}
+use Rattle.layer_merge.specs.Within.{AreAsked, AreBounded, IsWantedChunk, entries_asked, keys_within, loads_asked, may_hold, reaches, rows_within, wanted_entries, wanted_loads, wanted_numbers}
 use Rattle.layer_merge.proofs.NextRows.{facts-have}
-use Rattle.layer_merge.proofs.StepLaws.{times-then}
+use Rattle.layer_merge.proofs.StepLaws.{times-then, weight}
 
 -- ---- the order of bytes
 
@@ -275,3 +277,56 @@ unfolding wanted_loads
 may-asked v ps m x a s b =
     ap₂ (λ (c : Bool) (ss : List _). cond c (to_load m.table x ss) (to_load m.table x ss + (to_begin m.table x m.waiting + to_begin m.table x m.waiting))) b s
     ∙ twice (to_begin m.table x m.waiting) (times x (loads_asked m.table v (from_last is_introduced ps))) (begin-asked m.table v (from_last is_introduced ps) m.waiting x a)
+
+-- ---- which chunks are to be loaded
+
+times-has : (table layer layer' n : ℕ) (ns : List ℕ) → 1 ≤ times (load layer table n) (loads_of table layer' ns) → (layer' ≡ layer) × Has n ns
+times-has table layer layer' n [] h = absurd (omega (arith, h))
+times-has table layer layer' n (m ∷ ns) h = by (is_load (load layer table n) (load layer' table m)) refl (times-has table layer layer' n ns)
+  where
+    same : (a b : ℕ) → (a == b) ≡ true → a ≡ b
+    same a b e = grind (arith, nat_tests)
+
+    whole : times (load layer table n) (loads_of table layer' (m ∷ ns)) ≡ cond (is_load (load layer table n) (load layer' table m)) 1 0 + times (load layer table n) (loads_of table layer' ns)
+    whole = sum_by-cons (λ (y : Load). cond (is_load (load layer table n) y) 1 0) (load layer' table m) (loads_of table layer' ns)
+
+    by : (b : Bool) → is_load (load layer table n) (load layer' table m) ≡ b → (1 ≤ times (load layer table n) (loads_of table layer' ns) → (layer' ≡ layer) × Has n ns) → (layer' ≡ layer) × Has n (m ∷ ns)
+    by true e more = let p = and-parts (layer == layer' && table == table) (n == m) e in let q = and-parts (layer == layer') (table == table) p.0 in (sym (same layer layer' q.0), inl (same n m p.1))
+    by false e more =
+        let c = ap weight e in
+        let r = more (omega (arith, h, whole, c)) in
+        (r.0, inr r.1)
+
+begin-has : (table layer n : ℕ) (ws : List Waiting) → 1 ≤ to_begin table (load layer table n) ws → (q : Waiting) × (Has q ws × ((q.layer ≡ layer) × Has n q.numbers.items))
+begin-has table layer n [] h = absurd (omega (arith, h))
+begin-has table layer n (q ∷ ws) h = by (times (load layer table n) (loads_of table q.layer q.numbers.items)) refl (begin-has table layer n ws)
+  where
+    whole : to_begin table (load layer table n) (q ∷ ws) ≡ times (load layer table n) (loads_of table q.layer q.numbers.items) + to_begin table (load layer table n) ws
+    whole = sum_by-cons (λ (y : Waiting). times (load layer table n) (loads_of table y.layer y.numbers.items)) q ws
+
+    by : (k : ℕ) → times (load layer table n) (loads_of table q.layer q.numbers.items) ≡ k → (1 ≤ to_begin table (load layer table n) ws → (y : Waiting) × (Has y ws × ((y.layer ≡ layer) × Has n y.numbers.items))) → (y : Waiting) × (Has y (q ∷ ws) × ((y.layer ≡ layer) × Has n y.numbers.items))
+    by zero e more = let r = more (omega (arith, h, whole, e)) in (r.0, (inr r.1.0, r.1.1))
+    by (suc k) e more = (q, (inl refl, times-has table layer q.layer n q.numbers.items (omega (arith, e))))
+
+asked-has : (v : Wanted) (ps : List Part) (ws : List Waiting) → AreAsked v ps ws → (q : Waiting) → Has q ws → (p : Part) × (Has p ps × ((q.layer ≡ p.layer) × (q.numbers.items ≡ wanted_numbers v p)))
+asked-has v [] ws a q h = absurd (subst (λ (l : List Waiting). Has q l) a h)
+asked-has v (p ∷ ps) [] a q h = absurd h
+asked-has v (p ∷ ps) (x ∷ ws) a q (inl i) = (p, (inl refl, (ap (λ (y : Waiting). y.layer) i ∙ a.0, ap (λ (y : Waiting). y.numbers.items) i ∙ a.1)))
+asked-has v (p ∷ ps) (x ∷ ws) a q (inr i) = let r = asked-has v ps ws a.2 q i in (r.0, (inr r.1.0, r.1.1))
+
+-- a new merge is to load just such chunks
+pub new-wanted : (v : Wanted) (ps : List Part) (m : WalkState) → AreAsked v (from_last is_introduced ps) m.waiting → m.stands ≡ [] → m.begun ≡ false → (layer number : ℕ) → IsToLoad m layer number → IsWantedChunk v ps layer number
+new-wanted v ps m a s b layer number h =
+    let x = load layer m.table number in
+    let may = ap₂ (λ (c : Bool) (ss : List Stand). cond c (to_load m.table x ss) (to_load m.table x ss + (to_begin m.table x m.waiting + to_begin m.table x m.waiting))) b s in
+    let q = begin-has m.table layer number m.waiting (omega (arith, h, may)) in
+    let p = asked-has v (from_last is_introduced ps) m.waiting a q.0 q.1.0 in
+    (p.0, (p.1.0, (sym p.1.1.0 ∙ q.1.1.0, subst (λ (ns : List ℕ). Has number ns) p.1.1.1 q.1.1.1)))
+
+range-below : (a n x : ℕ) → Has x (range_with_len a n) → x < a + n
+range-below a zero x h = absurd h
+range-below a (suc n) x (inl i) = omega (arith, i)
+range-below a (suc n) x (inr i) = let l = range-below (a + 1) n x i in omega (arith, l)
+
+pub wanted-counted : (v : Wanted) (ps : List Part) (layer number : ℕ) → IsWantedChunk v ps layer number → IsCountedChunk ps layer number
+wanted-counted v ps layer number w = (w.0, (w.1.0, (w.1.1.0, (let l = range-below 0 w.0.chunks number (members.filter-has (holds v w.0) number (range_with_len 0 w.0.chunks) w.1.1.1) in omega (arith, l)))))

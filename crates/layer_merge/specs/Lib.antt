@@ -14,3 +14,4 @@ pub mod Laws
 pub mod Parts
 pub mod Changes
 pub mod Within
+pub mod Joins

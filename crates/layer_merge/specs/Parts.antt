@@ -1,5 +1,5 @@
 -- The parts of a merge, and what they hold.
-use Rattle.std.specs.Prelude.{◌≡◌, Bool, true, List, [], ◌∷◌, ◌++◌, map, None}
+use Rattle.std.specs.Prelude.{◌≡◌, ◌<◌, ℕ, Bool, true, List, [], ◌∷◌, ◌++◌, map, None}
 use Rattle.std.specs.List.{range_with_len}
 use Rattle.mvcc_keys.specs.Times.{Time}
 use Rattle.mvcc_keys.specs.declared.entries.Entry.{Entry}
@@ -27,6 +27,10 @@ entries_of_part w p = entries_in w p.layer (range_with_len 0 p.chunks)
 abbrev pub entries_of_parts : World → List Part → List Entry
 entries_of_parts w [] = []
 entries_of_parts w (p ∷ ps) = entries_of_part w p ++ entries_of_parts w ps
+
+-- a chunk of a part that counts, by its layer and its number in the part
+abbrev pub IsCountedChunk : List Part → ℕ → ℕ → Type 0
+IsCountedChunk ps layer number = (p : Part) × (Has p (from_last is_introduced ps) × ((p.layer ≡ layer) × (number < p.chunks)))
 
 -- the entries of the parts that count
 unfoldable pub counted_entries : World → List Part → List Entry

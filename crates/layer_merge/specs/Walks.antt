@@ -6,7 +6,7 @@ use Rattle.fact_model.specs.Facts.{IsApart}
 use Rattle.layer_merge.specs.declared.ranges.Waiting.{Waiting}
 use Rattle.layer_merge.specs.declared.wanted.Wanted.{Wanted}
 use Rattle.layer_merge.specs.Loads.{Load, World}
-use Rattle.layer_merge.specs.Steps.{to_begin, to_load}
+use Rattle.layer_merge.specs.Steps.{MayLoad, to_begin, to_load}
 use Rattle.layer_merge.specs.Stands.{Stand, AreAt}
 use Rattle.version_store.specs.Tables.{Bytes, bytes_cmp}
 use Rattle.version_store.specs.Lists.{facts_of}
@@ -56,6 +56,10 @@ rows_of all m = rows_left m.wanted m.done all
 -- how often a load is made at most from now on: once for the ranges and once for the points before the walk began, and once for the points after
 abbrev pub may_load : Load → WalkState → ℕ
 may_load x m = cond m.begun (to_load m.table x m.stands) (to_load m.table x m.stands + (to_begin m.table x m.waiting + to_begin m.table x m.waiting))
+
+-- a chunk of a layer is still to be loaded, for its ranges or its points
+abbrev pub IsToLoad : WalkState → ℕ → ℕ → Type 0
+IsToLoad m layer number = MayLoad (λ x. may_load x m) m.table layer number
 
 -- ---- the merge of rows
 

@@ -45,6 +45,10 @@ entries_asked w v (p ∷ ps) = entries_in w p.layer (wanted_numbers v p) ++ entr
 unfoldable pub wanted_entries : World → Wanted → List Part → List Entry
 wanted_entries w v ps = entries_asked w v (from_last is_introduced ps)
 
+-- a chunk, of a part that counts, that may hold such a key, by its layer and its number in the part
+abbrev pub IsWantedChunk : Wanted → List Part → ℕ → ℕ → Type 0
+IsWantedChunk v ps layer number = (p : Part) × (Has p (from_last is_introduced ps) × ((p.layer ≡ layer) × Has number (wanted_numbers v p)))
+
 abbrev pub loads_asked : ℕ → Wanted → List Part → List Load
 loads_asked table v [] = []
 loads_asked table v (p ∷ ps) = loads_of table p.layer (wanted_numbers v p) ++ loads_asked table v ps

@@ -10,7 +10,7 @@ ghost use Rattle.layer_merge.specs.Changes.{changes_left};
 ghost use Rattle.layer_merge.specs.Loads.{Gives, IsOthers, World};
 ghost use Rattle.layer_merge.specs.Rows.{Gave};
 ghost use Rattle.layer_merge.specs.Stands.{AreAt, first_of, stand_cmp};
-ghost use Rattle.layer_merge.specs.Steps.{IsMergeFault, IsOfHeld, IsStep, to_load};
+ghost use Rattle.layer_merge.specs.Steps.{IsMergeFault, IsOfHeld, IsStep, MayLoad, to_load};
 ghost use Rattle.version_store.specs.Tables.{bytes_cmp};
 ghost use Rattle.version_store.specs.Lists.{facts_of};
 
@@ -75,9 +75,9 @@ pub(crate) fn next_change<C: Chunks>(
     done: &mut Option<Blob>,
 ) -> Result<Option<Entry>, MergeFault<C::Fault>>
     requires heap { IsHeap stand_cmp (heap_items cursors.old) }
-    ensures step { IsStep C.kept C.came C.loads table chunks.old chunks.new (heap_items cursors.old) (heap_items cursors.new) (λ x. to_load table x (heap_items cursors.old)) (λ x. to_load table x (heap_items cursors.new)) }
-    ensures fault { IfErr result (IsMergeFault (C.came chunks.old chunks.new) table kinds.now (heap_items cursors.old)) }
-    ensures put { IfOk result (λ r. IfSome r (IsOfHeld (C.came chunks.old chunks.new) table (heap_items cursors.old))) }
+    ensures step { IsStep C.kept C.came C.loads table kinds.now chunks.old chunks.new (heap_items cursors.old) (heap_items cursors.new) (λ x. to_load table x (heap_items cursors.old)) (λ x. to_load table x (heap_items cursors.new)) }
+    ensures fault { IfErr result (IsMergeFault (C.came chunks.old chunks.new) table kinds.now (MayLoad (λ x. to_load table x (heap_items cursors.old)) table) (heap_items cursors.old)) }
+    ensures put { IfOk result (λ r. IfSome r (IsOfHeld (C.came chunks.old chunks.new) table kinds.now (MayLoad (λ x. to_load table x (heap_items cursors.old)) table) (heap_items cursors.old))) }
     ensures heap { IsHeap stand_cmp (heap_items cursors.new) }
     ensures world { (w : World) (all : List Entry) → Gives C.came table kinds.now w chunks.old → IsApart bytes_cmp (facts_of all) → AreAt w wanted.now done.old all (heap_items cursors.old) → IfOk result (λ r. Gave r (changes_left wanted.now done.old all) (changes_left wanted.now done.new all) × AreAt w wanted.now done.new all (heap_items cursors.new)) }
     ensures sound { (w : World) (all : List Entry) → Gives C.came table kinds.now w chunks.old → AreAt w wanted.now done.old all (heap_items cursors.old) → IfErr result IsOthers }

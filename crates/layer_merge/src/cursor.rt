@@ -9,7 +9,7 @@ ghost use Rattle.chunk_file.specs.Entries.{seen, are_ordered};
 ghost use Rattle.chunk_file.specs.Held.{IsEntryStart, left_at};
 ghost use Rattle.layer_merge.specs.Loads.{Gives, IsOthers, World};
 ghost use Rattle.layer_merge.specs.Stands.{IsLast, Loaded, Moves, coming, date_in, entry_cmp, first_of, goes_on, key_in, rank_of, room, stand, stand_cmp};
-ghost use Rattle.layer_merge.specs.Steps.{IsMergeFault, IsStep, stands_of, to_load};
+ghost use Rattle.layer_merge.specs.Steps.{IsMergeFault, IsStep, MayLoad, stands_of, to_load};
 
 use crate::loading::load_chunk;
 use crate::{Chunks, Kind, MergeFault};
@@ -191,8 +191,8 @@ impl Cursor {
         kinds: &[Kind],
     ) -> Result<Option<Cursor>, MergeFault<C::Fault>>
         requires { self.left ≡ take 1 self.left }
-        ensures step { IsStep C.kept C.came C.loads table chunks.old chunks.new (self ∷ []) (stands_of result) (λ x. to_load table x (self ∷ [])) (λ x. to_load table x (stands_of result)) }
-        ensures fault { IfErr result (IsMergeFault (C.came chunks.old chunks.new) table kinds.now (self ∷ [])) }
+        ensures step { IsStep C.kept C.came C.loads table kinds.now chunks.old chunks.new (self ∷ []) (stands_of result) (λ x. to_load table x (self ∷ [])) (λ x. to_load table x (stands_of result)) }
+        ensures fault { IfErr result (IsMergeFault (C.came chunks.old chunks.new) table kinds.now (MayLoad (λ x. to_load table x (self ∷ [])) table) (self ∷ [])) }
         ensures world { (w : World) → Gives C.came table kinds.now w chunks.old → IfOk result (Loaded w self) }
         ensures sound { (w : World) → Gives C.came table kinds.now w chunks.old → IsLast w self → IfErr result IsOthers }
         ensures shorter { IfOk result (λ r. IfSome r (λ m. room m ≤ 258 * length self.numbers)) }
@@ -228,8 +228,8 @@ impl Cursor {
         table: u32,
         kinds: &[Kind],
     ) -> Result<Option<Cursor>, MergeFault<C::Fault>>
-        ensures step { IsStep C.kept C.came C.loads table chunks.old chunks.new (self ∷ []) (stands_of result) (λ x. to_load table x (self ∷ [])) (λ x. to_load table x (stands_of result)) }
-        ensures fault { IfErr result (IsMergeFault (C.came chunks.old chunks.new) table kinds.now (self ∷ [])) }
+        ensures step { IsStep C.kept C.came C.loads table kinds.now chunks.old chunks.new (self ∷ []) (stands_of result) (λ x. to_load table x (self ∷ [])) (λ x. to_load table x (stands_of result)) }
+        ensures fault { IfErr result (IsMergeFault (C.came chunks.old chunks.new) table kinds.now (MayLoad (λ x. to_load table x (self ∷ [])) table) (self ∷ [])) }
         ensures world { (w : World) → Gives C.came table kinds.now w chunks.old → IfOk result (Moves w self) }
         ensures sound { (w : World) → Gives C.came table kinds.now w chunks.old → are_ordered None (coming w self) ≡ true → IfErr result IsOthers }
         ensures shorter { IfOk result (λ r. IfSome r (λ m. room m < room self)) }

@@ -19,7 +19,7 @@ mod wanted;
 
 pub use chunks::{Chunks, MergeFault};
 pub use entry_merge::EntryMerge;
-pub use laws::chains_are_whole;
+pub use laws::{chains_are_whole, joins_are_direct};
 pub use mvcc_keys::{Entry, Memory};
 pub use parts::Part;
 pub use row_codec::Kind;

@@ -4,7 +4,7 @@ ghost use Rattle.std.specs.BinaryHeap.{IsHeap, KeepsHeap, heap_items};
 ghost use Rattle.mvcc_keys.specs.declared.entries.Entry.{Entry};
 ghost use Rattle.layer_merge.specs.Loads.{Gives, IsOthers, World};
 ghost use Rattle.layer_merge.specs.Stands.{AreAt, Finds, counts_first, first_of, room, stand_cmp};
-ghost use Rattle.layer_merge.specs.Steps.{IsMergeFault, IsStep, stands_of, to_load};
+ghost use Rattle.layer_merge.specs.Steps.{IsMergeFault, IsStep, MayLoad, stands_of, to_load};
 
 use crate::cursor::Cursor;
 use crate::wanted::{Wanted, counts};
@@ -48,8 +48,8 @@ pub(crate) fn find<C: Chunks>(
     done: &Option<Blob>,
 ) -> Result<Option<Cursor>, MergeFault<C::Fault>>
     requires { IsHeap stand_cmp (heap_items cursors.old) }
-    ensures step { IsStep C.kept C.came C.loads table chunks.old chunks.new (heap_items cursors.old) (stands_of result ++ heap_items cursors.new) (λ x. to_load table x (heap_items cursors.old)) (λ x. to_load table x (stands_of result ++ heap_items cursors.new)) }
-    ensures fault { IfErr result (IsMergeFault (C.came chunks.old chunks.new) table kinds.now (heap_items cursors.old)) }
+    ensures step { IsStep C.kept C.came C.loads table kinds.now chunks.old chunks.new (heap_items cursors.old) (stands_of result ++ heap_items cursors.new) (λ x. to_load table x (heap_items cursors.old)) (λ x. to_load table x (stands_of result ++ heap_items cursors.new)) }
+    ensures fault { IfErr result (IsMergeFault (C.came chunks.old chunks.new) table kinds.now (MayLoad (λ x. to_load table x (heap_items cursors.old)) table) (heap_items cursors.old)) }
     ensures heap { IsHeap stand_cmp (heap_items cursors.new) }
     ensures room { IfOk result (λ r. sum_by room (option_to_list r ++ heap_items cursors.new) ≤ sum_by room (heap_items cursors.old)) }
     ensures world { (w : World) (all : List Entry) → Gives C.came table kinds.now w chunks.old → AreAt w wanted.now done.now all (heap_items cursors.old) → IfOk result (λ r. Finds w wanted.now done.now all r (heap_items cursors.new)) }

@@ -1,12 +1,12 @@
 //! The rows of a table as of a time, out of the layers of a chain.
-ghost use Rattle.std.specs.Prelude.{◌≡◌, ◌+◌, true, false, [], None, IfOk, IfErr, IfSome, OnErr, OnOk, List};
+ghost use Rattle.std.specs.Prelude.{◌≡◌, ◌+◌, ℕ, true, false, [], None, IfOk, IfErr, IfSome, OnErr, OnOk, List};
 ghost use Rattle.mvcc_keys.specs.declared.entries.Entry.{Entry};
 ghost use Rattle.layer_merge.specs.Loads.{Gives, IsOthers, Load, World};
-ghost use Rattle.layer_merge.specs.Within.{AreBounded, keys_within, rows_within, wanted_entries, wanted_loads};
+ghost use Rattle.layer_merge.specs.Within.{AreBounded, IsWantedChunk, keys_within, rows_within, wanted_entries, wanted_loads};
 ghost use Rattle.layer_merge.specs.Steps.{IsMergeFault, IsOfHeld, IsStep, times, to_load};
 ghost use Rattle.layer_merge.specs.Rows.{Gave};
-ghost use Rattle.layer_merge.specs.Walks.{MergesOver, may_load, rows_of};
-ghost use Rattle.layer_merge.specs.Parts.{AreProper, counted_entries, merge_rows};
+ghost use Rattle.layer_merge.specs.Walks.{IsToLoad, MergesOver, may_load, rows_of};
+ghost use Rattle.layer_merge.specs.Parts.{AreProper, IsCountedChunk, counted_entries, merge_rows};
 
 use crate::parts::Part;
 use crate::walk::Walk;
@@ -47,6 +47,7 @@ impl RowMerge {
         ensures kinds { IfOk result (λ m. m.walk.kinds ≡ kinds.now) }
         ensures failed { IfOk result (λ m. m.failed ≡ false) }
         ensures held { IfOk result (λ m. m.walk.stands ≡ []) }
+        ensures asks { IfOk result (λ m. (layer number : ℕ) → IsToLoad m.walk layer number → IsCountedChunk parts.now layer number) }
         ensures rows { (w : World) → AreProper w parts.now → IfOk result (λ m. MergesOver w (counted_entries w parts.now) m.walk × (rows_of (counted_entries w parts.now) m.walk ≡ merge_rows w parts.now t)) }
     {
         match Walk::over(alloc, table, kinds, parts, wanted_from(alloc, None, t)) {
@@ -74,6 +75,7 @@ impl RowMerge {
         ensures failed { IfOk result (λ m. m.failed ≡ false) }
         ensures held { IfOk result (λ m. m.walk.stands ≡ []) }
         ensures loads { IfOk result (λ m. (x : Load) → may_load x m.walk ≡ times x (wanted_loads table (keys_within lo.now hi.now t) parts.now) + times x (wanted_loads table (keys_within lo.now hi.now t) parts.now)) }
+        ensures asks { IfOk result (λ m. (layer number : ℕ) → IsToLoad m.walk layer number → IsWantedChunk (keys_within lo.now hi.now t) parts.now layer number) }
         ensures rows { (w : World) → AreProper w parts.now → AreBounded w parts.now → IfOk result (λ m. MergesOver w (wanted_entries w (keys_within lo.now hi.now t) parts.now) m.walk × (rows_of (wanted_entries w (keys_within lo.now hi.now t) parts.now) m.walk ≡ rows_within w parts.now t lo.now hi.now)) }
     {
         let wanted = match wanted_within(alloc, lo, hi, t) {
@@ -92,9 +94,9 @@ impl RowMerge {
     /// The next visible put, by key; None exactly at the end.
     pub fn next<C: Chunks>(&mut self, chunks: &mut C) -> Result<Option<Entry>, MergeFault<C::Fault>>
         requires { self.old.failed ≡ false }
-        ensures step { IsStep C.kept C.came C.loads self.old.walk.table chunks.old chunks.new self.old.walk.stands self.new.walk.stands (λ x. may_load x self.old.walk) (λ x. to_load self.old.walk.table x self.new.walk.stands) }
-        ensures put { IfOk result (λ r. IfSome r (IsOfHeld (C.came chunks.old chunks.new) self.old.walk.table self.old.walk.stands)) }
-        ensures fault { IfErr result (IsMergeFault (C.came chunks.old chunks.new) self.old.walk.table self.old.walk.kinds self.old.walk.stands) }
+        ensures step { IsStep C.kept C.came C.loads self.old.walk.table self.old.walk.kinds chunks.old chunks.new self.old.walk.stands self.new.walk.stands (λ x. may_load x self.old.walk) (λ x. to_load self.old.walk.table x self.new.walk.stands) }
+        ensures put { IfOk result (λ r. IfSome r (IsOfHeld (C.came chunks.old chunks.new) self.old.walk.table self.old.walk.kinds (IsToLoad self.old.walk) self.old.walk.stands)) }
+        ensures fault { IfErr result (IsMergeFault (C.came chunks.old chunks.new) self.old.walk.table self.old.walk.kinds (IsToLoad self.old.walk) self.old.walk.stands) }
         ensures sound { (w : World) (all : List Entry) → Gives C.came self.old.walk.table self.old.walk.kinds w chunks.old → MergesOver w all self.old.walk → IfErr result IsOthers }
         ensures begun { OnOk result (self.new.walk.begun ≡ true) }
         ensures table { self.new.walk.table ≡ self.old.walk.table }

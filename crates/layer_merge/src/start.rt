@@ -3,7 +3,7 @@ ghost use Rattle.std.specs.Prelude.{◌≡◌, ◌≤◌, ◌+◌, true, None, [
 ghost use Rattle.std.specs.BinaryHeap.{IsHeap, heap_items};
 ghost use Rattle.mvcc_keys.specs.declared.entries.Entry.{Entry};
 ghost use Rattle.layer_merge.specs.Loads.{Gives, IsOthers, Load, World};
-ghost use Rattle.layer_merge.specs.Steps.{IsMergeFault, IsStep, loads_of, stands_of, times, to_begin, to_load};
+ghost use Rattle.layer_merge.specs.Steps.{IsMergeFault, IsStep, MayLoad, loads_of, stands_of, times, to_begin, to_load};
 ghost use Rattle.layer_merge.specs.Stands.{AreAt, stand_cmp};
 ghost use Rattle.layer_merge.specs.Ranges.{AreDated, HasRanges};
 ghost use Rattle.layer_merge.specs.Starts.{AreInOrder, Begins, BegunSoFar, RangesSoFar, parts_entries};
@@ -28,9 +28,9 @@ pub(crate) fn all_ranges<C: Chunks>(
     kinds: &[Kind],
 ) -> Result<(), MergeFault<C::Fault>>
     requires { ready.old.items ≡ [] }
-    ensures step { IsStep C.kept C.came C.loads table chunks.old chunks.new [] [] (λ x. to_begin table x waiting.old.items) (λ x. 0) }
+    ensures step { IsStep C.kept C.came C.loads table kinds.now chunks.old chunks.new [] [] (λ x. to_begin table x waiting.old.items) (λ x. 0) }
     ensures fewer { OnOk result ((x : Load) → to_begin table x ready.new.items ≤ to_begin table x waiting.old.items) }
-    ensures fault { IfErr result (IsMergeFault (C.came chunks.old chunks.new) table kinds.now []) }
+    ensures fault { IfErr result (IsMergeFault (C.came chunks.old chunks.new) table kinds.now (MayLoad (λ x. to_begin table x waiting.old.items) table) []) }
     ensures sound { (w : World) → Gives C.came table kinds.now w chunks.old → AreInOrder w waiting.old.items → IfErr result IsOthers }
     ensures world { (w : World) → Gives C.came table kinds.now w chunks.old → AreInOrder w waiting.old.items
         → OnOk result (RangesSoFar w (parts_entries w waiting.old.items) [] ready.new.items ranges.old ranges.new) }
@@ -55,8 +55,8 @@ fn begun<C: Chunks>(
     table: u32,
     kinds: &[Kind],
 ) -> Result<Option<Cursor>, MergeFault<C::Fault>>
-    ensures step { IsStep C.kept C.came C.loads table chunks.old chunks.new [] (stands_of result) (λ x. times x (loads_of table part.layer part.numbers.items)) (λ x. to_load table x (stands_of result)) }
-    ensures fault { IfErr result (IsMergeFault (C.came chunks.old chunks.new) table kinds.now []) }
+    ensures step { IsStep C.kept C.came C.loads table kinds.now chunks.old chunks.new [] (stands_of result) (λ x. times x (loads_of table part.layer part.numbers.items)) (λ x. to_load table x (stands_of result)) }
+    ensures fault { IfErr result (IsMergeFault (C.came chunks.old chunks.new) table kinds.now (MayLoad (λ x. times x (loads_of table part.layer part.numbers.items)) table) []) }
     ensures sound { (w : World) → Gives C.came table kinds.now w chunks.old → IfErr result IsOthers }
     ensures world { (w : World) → Gives C.came table kinds.now w chunks.old → IfOk result (Begins w part) }
 {
@@ -79,8 +79,8 @@ pub(crate) fn begin_all<C: Chunks>(
     kinds: &[Kind],
 ) -> Result<(), MergeFault<C::Fault>>
     requires { IsHeap stand_cmp (heap_items cursors.old) }
-    ensures step { IsStep C.kept C.came C.loads table chunks.old chunks.new (heap_items cursors.old) (heap_items cursors.new) (λ x. to_load table x (heap_items cursors.old) + to_begin table x ready.old.items) (λ x. to_load table x (heap_items cursors.new)) }
-    ensures fault { IfErr result (IsMergeFault (C.came chunks.old chunks.new) table kinds.now (heap_items cursors.old)) }
+    ensures step { IsStep C.kept C.came C.loads table kinds.now chunks.old chunks.new (heap_items cursors.old) (heap_items cursors.new) (λ x. to_load table x (heap_items cursors.old) + to_begin table x ready.old.items) (λ x. to_load table x (heap_items cursors.new)) }
+    ensures fault { IfErr result (IsMergeFault (C.came chunks.old chunks.new) table kinds.now (MayLoad (λ x. to_load table x (heap_items cursors.old) + to_begin table x ready.old.items) table) (heap_items cursors.old)) }
     ensures sound { (w : World) → Gives C.came table kinds.now w chunks.old → IfErr result IsOthers }
     ensures heap { IsHeap stand_cmp (heap_items cursors.new) }
     ensures world { (w : World) (v : Wanted) (done : Option (List ℕ)) (all : List Entry) → Gives C.came table kinds.now w chunks.old → BegunSoFar w v done all ready.old.items (heap_items cursors.old)
@@ -109,8 +109,8 @@ pub(crate) fn start<C: Chunks>(
     kinds: &[Kind],
 ) -> Result<(), MergeFault<C::Fault>>
     requires { IsHeap stand_cmp (heap_items cursors.old) }
-    ensures step { IsStep C.kept C.came C.loads table chunks.old chunks.new (heap_items cursors.old) (heap_items cursors.new) (λ x. to_load table x (heap_items cursors.old) + (to_begin table x waiting.old.items + to_begin table x waiting.old.items)) (λ x. to_load table x (heap_items cursors.new)) }
-    ensures fault { IfErr result (IsMergeFault (C.came chunks.old chunks.new) table kinds.now (heap_items cursors.old)) }
+    ensures step { IsStep C.kept C.came C.loads table kinds.now chunks.old chunks.new (heap_items cursors.old) (heap_items cursors.new) (λ x. to_load table x (heap_items cursors.old) + (to_begin table x waiting.old.items + to_begin table x waiting.old.items)) (λ x. to_load table x (heap_items cursors.new)) }
+    ensures fault { IfErr result (IsMergeFault (C.came chunks.old chunks.new) table kinds.now (MayLoad (λ x. to_load table x (heap_items cursors.old) + (to_begin table x waiting.old.items + to_begin table x waiting.old.items)) table) (heap_items cursors.old)) }
     ensures sound { (w : World) → Gives C.came table kinds.now w chunks.old → AreInOrder w waiting.old.items → IfErr result IsOthers }
     ensures heap { IsHeap stand_cmp (heap_items cursors.new) }
     ensures world { (w : World) (v : Wanted) (done : Option (List ℕ)) → Gives C.came table kinds.now w chunks.old → AreInOrder w waiting.old.items → AreDated (parts_entries w waiting.old.items)

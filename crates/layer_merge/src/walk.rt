@@ -2,13 +2,13 @@
 ghost use Rattle.std.specs.Prelude.{◌≡◌, true, false, [], None, IfOk, IfErr, IfSome, OnOk, List};
 ghost use Rattle.mvcc_keys.specs.declared.entries.Entry.{Entry};
 ghost use Rattle.layer_merge.specs.Loads.{Gives, IsOthers, World};
-ghost use Rattle.layer_merge.specs.Steps.{IsMergeFault, IsOfHeld, IsStep, to_load};
+ghost use Rattle.layer_merge.specs.Steps.{IsMergeFault, IsOfHeld, IsStep, MayLoad, to_load};
 ghost use Rattle.layer_merge.specs.Changes.{changes_of, ranges_held};
 ghost use Rattle.layer_merge.specs.FromLast.{from_last};
 ghost use Rattle.layer_merge.specs.Parts.{is_introduced};
 ghost use Rattle.layer_merge.specs.Rows.{Gave};
 ghost use Rattle.layer_merge.specs.Within.{AreAsked};
-ghost use Rattle.layer_merge.specs.Walks.{MergesOver, may_load, rows_of};
+ghost use Rattle.layer_merge.specs.Walks.{IsToLoad, MergesOver, may_load, rows_of};
 
 use crate::changes::next_change;
 use crate::cursor::Cursor;
@@ -111,8 +111,8 @@ impl Walk {
 
     /// Loads what is needed before the first row, once.
     fn begin<C: Chunks>(&mut self, chunks: &mut C) -> Result<(), MergeFault<C::Fault>>
-        ensures step { IsStep C.kept C.came C.loads self.old.table chunks.old chunks.new self.old.stands self.new.stands (λ x. may_load x self.old) (λ x. to_load self.old.table x self.new.stands) }
-        ensures fault { IfErr result (IsMergeFault (C.came chunks.old chunks.new) self.old.table self.old.kinds self.old.stands) }
+        ensures step { IsStep C.kept C.came C.loads self.old.table self.old.kinds chunks.old chunks.new self.old.stands self.new.stands (λ x. may_load x self.old) (λ x. to_load self.old.table x self.new.stands) }
+        ensures fault { IfErr result (IsMergeFault (C.came chunks.old chunks.new) self.old.table self.old.kinds (IsToLoad self.old) self.old.stands) }
         ensures sound { (w : World) (all : List Entry) → Gives C.came self.old.table self.old.kinds w chunks.old → MergesOver w all self.old → IfErr result IsOthers }
         ensures table { self.new.table ≡ self.old.table }
         ensures kinds { self.new.kinds ≡ self.old.kinds }
@@ -145,9 +145,9 @@ impl Walk {
     fn row<C: Chunks>(&mut self, chunks: &mut C) -> Result<Option<Entry>, MergeFault<C::Fault>>
         requires begun { self.old.begun ≡ true }
         requires from_start { self.old.wanted.after ≡ None }
-        ensures step { IsStep C.kept C.came C.loads self.old.table chunks.old chunks.new self.old.stands self.new.stands (λ x. to_load self.old.table x self.old.stands) (λ x. to_load self.old.table x self.new.stands) }
-        ensures fault { IfErr result (IsMergeFault (C.came chunks.old chunks.new) self.old.table self.old.kinds self.old.stands) }
-        ensures put { IfOk result (λ r. IfSome r (IsOfHeld (C.came chunks.old chunks.new) self.old.table self.old.stands)) }
+        ensures step { IsStep C.kept C.came C.loads self.old.table self.old.kinds chunks.old chunks.new self.old.stands self.new.stands (λ x. to_load self.old.table x self.old.stands) (λ x. to_load self.old.table x self.new.stands) }
+        ensures fault { IfErr result (IsMergeFault (C.came chunks.old chunks.new) self.old.table self.old.kinds (MayLoad (λ x. to_load self.old.table x self.old.stands) self.old.table) self.old.stands) }
+        ensures put { IfOk result (λ r. IfSome r (IsOfHeld (C.came chunks.old chunks.new) self.old.table self.old.kinds (MayLoad (λ x. to_load self.old.table x self.old.stands) self.old.table) self.old.stands)) }
         ensures sound { (w : World) (all : List Entry) → Gives C.came self.old.table self.old.kinds w chunks.old → MergesOver w all self.old → IfErr result IsOthers }
         ensures begun { self.new.begun ≡ true }
         ensures table { self.new.table ≡ self.old.table }
@@ -173,9 +173,9 @@ impl Walk {
         chunks: &mut C,
     ) -> Result<Option<Entry>, MergeFault<C::Fault>>
         requires { self.old.wanted.after ≡ None }
-        ensures step { IsStep C.kept C.came C.loads self.old.table chunks.old chunks.new self.old.stands self.new.stands (λ x. may_load x self.old) (λ x. to_load self.old.table x self.new.stands) }
-        ensures fault { IfErr result (IsMergeFault (C.came chunks.old chunks.new) self.old.table self.old.kinds self.old.stands) }
-        ensures put { IfOk result (λ r. IfSome r (IsOfHeld (C.came chunks.old chunks.new) self.old.table self.old.stands)) }
+        ensures step { IsStep C.kept C.came C.loads self.old.table self.old.kinds chunks.old chunks.new self.old.stands self.new.stands (λ x. may_load x self.old) (λ x. to_load self.old.table x self.new.stands) }
+        ensures fault { IfErr result (IsMergeFault (C.came chunks.old chunks.new) self.old.table self.old.kinds (IsToLoad self.old) self.old.stands) }
+        ensures put { IfOk result (λ r. IfSome r (IsOfHeld (C.came chunks.old chunks.new) self.old.table self.old.kinds (IsToLoad self.old) self.old.stands)) }
         ensures sound { (w : World) (all : List Entry) → Gives C.came self.old.table self.old.kinds w chunks.old → MergesOver w all self.old → IfErr result IsOthers }
         ensures begun { OnOk result (self.new.begun ≡ true) }
         ensures table { self.new.table ≡ self.old.table }
@@ -193,9 +193,9 @@ impl Walk {
     /// The next change, once the walk has begun.
     fn change<C: Chunks>(&mut self, chunks: &mut C) -> Result<Option<Entry>, MergeFault<C::Fault>>
         requires { self.old.begun ≡ true }
-        ensures step { IsStep C.kept C.came C.loads self.old.table chunks.old chunks.new self.old.stands self.new.stands (λ x. to_load self.old.table x self.old.stands) (λ x. to_load self.old.table x self.new.stands) }
-        ensures fault { IfErr result (IsMergeFault (C.came chunks.old chunks.new) self.old.table self.old.kinds self.old.stands) }
-        ensures put { IfOk result (λ r. IfSome r (IsOfHeld (C.came chunks.old chunks.new) self.old.table self.old.stands)) }
+        ensures step { IsStep C.kept C.came C.loads self.old.table self.old.kinds chunks.old chunks.new self.old.stands self.new.stands (λ x. to_load self.old.table x self.old.stands) (λ x. to_load self.old.table x self.new.stands) }
+        ensures fault { IfErr result (IsMergeFault (C.came chunks.old chunks.new) self.old.table self.old.kinds (MayLoad (λ x. to_load self.old.table x self.old.stands) self.old.table) self.old.stands) }
+        ensures put { IfOk result (λ r. IfSome r (IsOfHeld (C.came chunks.old chunks.new) self.old.table self.old.kinds (MayLoad (λ x. to_load self.old.table x self.old.stands) self.old.table) self.old.stands)) }
         ensures sound { (w : World) (all : List Entry) → Gives C.came self.old.table self.old.kinds w chunks.old → MergesOver w all self.old → IfErr result IsOthers }
         ensures begun { self.new.begun ≡ true }
         ensures table { self.new.table ≡ self.old.table }
@@ -219,9 +219,9 @@ impl Walk {
         &mut self,
         chunks: &mut C,
     ) -> Result<Option<Entry>, MergeFault<C::Fault>>
-        ensures step { IsStep C.kept C.came C.loads self.old.table chunks.old chunks.new self.old.stands self.new.stands (λ x. may_load x self.old) (λ x. to_load self.old.table x self.new.stands) }
-        ensures fault { IfErr result (IsMergeFault (C.came chunks.old chunks.new) self.old.table self.old.kinds self.old.stands) }
-        ensures put { IfOk result (λ r. IfSome r (IsOfHeld (C.came chunks.old chunks.new) self.old.table self.old.stands)) }
+        ensures step { IsStep C.kept C.came C.loads self.old.table self.old.kinds chunks.old chunks.new self.old.stands self.new.stands (λ x. may_load x self.old) (λ x. to_load self.old.table x self.new.stands) }
+        ensures fault { IfErr result (IsMergeFault (C.came chunks.old chunks.new) self.old.table self.old.kinds (IsToLoad self.old) self.old.stands) }
+        ensures put { IfOk result (λ r. IfSome r (IsOfHeld (C.came chunks.old chunks.new) self.old.table self.old.kinds (IsToLoad self.old) self.old.stands)) }
         ensures sound { (w : World) (all : List Entry) → Gives C.came self.old.table self.old.kinds w chunks.old → MergesOver w all self.old → IfErr result IsOthers }
         ensures begun { OnOk result (self.new.begun ≡ true) }
         ensures table { self.new.table ≡ self.old.table }

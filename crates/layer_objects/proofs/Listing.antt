@@ -27,7 +27,7 @@ use Rattle.layer_objects.specs.Storable.{AreListable}
 
 -- ---- lists
 
-find-has : {X : Type 0} (p : X → Bool) (x : X) (xs : List X) → find p xs ≡ Some x → Has x xs
+pub find-has : {X : Type 0} (p : X → Bool) (x : X) (xs : List X) → find p xs ≡ Some x → Has x xs
 find-has p x [] e = absurd cc
 find-has p x (y ∷ ys) e = by (p y) (find-has p x ys) e
   where

@@ -150,7 +150,7 @@ manifests-tell tables r m written proper same =
 
 -- ---- tables by their ids
 
-at-id : {X : Type 0} (none : X) (f : Table → X) (tables : List Table) (id i : ℕ) (table : Table) → id ≡ 100 + i → slice_get tables i ≡ Some table → by_id none f tables id ≡ f table
+pub at-id : {X : Type 0} (none : X) (f : Table → X) (tables : List Table) (id i : ℕ) (table : Table) → id ≡ 100 + i → slice_get tables i ≡ Some table → by_id none f tables id ≡ f table
 at-id none f tables id i table is got =
     let high : nat_lt id 100 ≡ false = grind (arith, nat_tests) in
     let place : id - 100 ≡ i = omega (arith, is) in

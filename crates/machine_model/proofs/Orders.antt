@@ -48,16 +48,16 @@ use Rattle.machine_model.proofs.Past.{changed-modified, named-there, new-modifie
 
 -- ---- descriptors
 
-and-true : (a : Bool) → a ≡ true → (a && true) ≡ true
+pub and-true : (a : Bool) → a ≡ true → (a && true) ≡ true
 and-true true e = refl
 and-true false e = cc e
 
-not-none : {X : Type 0} (xs : List X) (x : X) → xs ++ x ∷ [] ≡ [] → ⊥
+pub not-none : {X : Type 0} (xs : List X) (x : X) → xs ++ x ∷ [] ≡ [] → ⊥
 not-none [] x e = cc e
 not-none (y ∷ ys) x e = cc e
 
 -- one more descriptor, after a time that none is after
-ascend-more : (first last : Time) (ds : List Schema) (e : Schema) → time_le first last ≡ true → ascend_after first ds ≡ true → ((d : Schema) → Has d ds → time_le d.modified last ≡ true) → time_lt last e.modified ≡ true → ascend_after first (ds ++ e ∷ []) ≡ true
+pub ascend-more : (first last : Time) (ds : List Schema) (e : Schema) → time_le first last ≡ true → ascend_after first ds ≡ true → ((d : Schema) → Has d ds → time_le d.modified last ≡ true) → time_lt last e.modified ≡ true → ascend_after first (ds ++ e ∷ []) ≡ true
 ascend-more first last [] e le all dated after = and-true (time_lt first e.modified) (le-lt-lt first last e.modified le after)
 ascend-more first last (d ∷ ds) e le all dated after =
     let p = both_true (time_lt first d.modified) (ascend_after d.modified ds) all in

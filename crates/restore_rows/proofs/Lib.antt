@@ -1,2 +1,13 @@
 pub mod MergeRuns
 pub mod NextChunks
+pub mod WholeParts
+pub mod ToldFaults
+pub mod Worlds
+pub mod MergeFaults
+pub mod PartsRead
+pub mod ShownParts
+pub mod Bounds
+pub mod StandingParts
+pub mod ChainParts
+pub mod Renewed
+pub mod Exported

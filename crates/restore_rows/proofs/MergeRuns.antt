@@ -1,14 +1,15 @@
 -- A merge that gives one row after another.
-use Rattle.std.proofs.Common.{◌≡◌, ℕ, ◌+◌, false, refl, sym, ap, ◌∙◌, List, [], ◌∷◌, ◌++◌, append-nil, append_assoc, length, length-append, arith, Result, Ok, Err, Some, None, if◌then◌else◌, is_err, is_ok}
+use Rattle.std.proofs.Common.{◌≡◌, ℕ, ◌+◌, false, refl, sym, ap, ◌∙◌, subst, List, [], ◌∷◌, ◌++◌, append-nil, append_assoc, length, length-append, arith, Result, Ok, Err, Some, None, if◌then◌else◌, is_err, is_ok}
 use Rattle.std.specs.List.{AllByRecursion}
 use Rattle.list_laws.proofs.Members.{all-append, all-weaker}
 use Rattle.mvcc_keys.specs.declared.entries.Entry.{Entry}
 use Rattle.row_codec.specs.declared.rows.Kind.{Kind}
+use Rattle.layer_merge.specs.declared.chunks.MergeFault.{MergeFault}
 use Rattle.layer_merge.specs.Loads.{Gives, World}
 use Rattle.layer_merge.specs.Rows.{Gave}
-use Rattle.layer_merge.specs.Steps.{AreHeld, IsOfHeld}
-use Rattle.layer_merge.specs.Walks.{MergesOver, RowState, rows_of}
-use Rattle.layer_merge.proofs.StepLaws.{AreLaws, held-later, held-then, of-held-then}
+use Rattle.layer_merge.specs.Steps.{AreHeld, IsHeld, IsMergeFault, IsOfHeld}
+use Rattle.layer_merge.specs.Walks.{IsToLoad, MergesOver, RowState, rows_of}
+use Rattle.layer_merge.proofs.StepLaws.{AreLaws, fault-then, held-later, held-then, of-held-then}
 
 -- a push that isn't refused
 pub pushed : {X T E : Type 0} (r : Result T E) (more same ys : List X) → is_err r ≡ false → ys ≡ (if is_ok r then more else same) → ys ≡ more
@@ -18,11 +19,12 @@ pushed (Err e) more same ys good is = cc good
 -- some rows were given, and the others are still to come
 pub record IsRunning {C F : Type 0} (kept : C → C → Type 0) (came : C → C → ℕ → ℕ → ℕ → Result (List ℕ) F → Type 0) (first now : C) (begun at : RowState) (rows : List Entry) (turn : ℕ) : Type 0 where
   pub is_kept : kept first now
+  pub held : AreHeld (came first now) begun.walk.table begun.walk.kinds (IsToLoad begun.walk) [] at.walk.stands
+  pub asks : (layer number : ℕ) → IsToLoad at.walk layer number → IsToLoad begun.walk layer number
   pub failed : at.failed ≡ false
   pub table : at.walk.table ≡ begun.walk.table
   pub kinds : at.walk.kinds ≡ begun.walk.kinds
-  pub held : AreHeld (came first now) begun.walk.table [] at.walk.stands
-  pub given : AllByRecursion (IsOfHeld (came first now) begun.walk.table []) rows
+  pub given : AllByRecursion (IsOfHeld (came first now) begun.walk.table begun.walk.kinds (IsToLoad begun.walk) []) rows
   pub world : (w : World) (all : List Entry) → Gives came begun.walk.table begun.walk.kinds w first → MergesOver w all begun.walk → MergesOver w all at.walk × (rows ++ rows_of all at.walk ≡ rows_of all begun.walk)
   pub count : length rows ≡ turn
 
@@ -30,10 +32,11 @@ module _ {C F : Type 0} (kept : C → C → Type 0) (came : C → C → ℕ → 
   pub running-first : (first : C) (begun : RowState) (rows : List Entry) → begun.failed ≡ false → begun.walk.stands ≡ [] → rows ≡ [] → IsRunning kept came first first begun begun rows 0
   running-first first begun rows good none empty = record {
     is_kept = laws.same first;
+    held = λ m has. absurd (rw none at has);
+    asks = λ layer number h. h;
     failed = good;
     table = refl;
     kinds = refl;
-    held = λ m has. absurd (rw none at has);
     given = rw empty tt;
     world = λ w all gives over. (over, rw empty refl);
     count = ap length empty;
@@ -47,19 +50,33 @@ module _ {C F : Type 0} (kept : C → C → Type 0) (came : C → C → ℕ → 
     pub gives-mid : (w : World) → Gives came begun.walk.table begun.walk.kinds w first → Gives came at.walk.table at.walk.kinds w mid
     gives-mid w gives = gives-later begun.walk.table begun.walk.kinds first mid w at.walk.table at.walk.kinds run.table run.kinds run.is_kept gives
 
-    pub running-next : (after : RowState) (row : Entry) → kept mid now → AreHeld (came mid now) at.walk.table at.walk.stands after.walk.stands → IsOfHeld (came mid now) at.walk.table at.walk.stands row
+    -- the table and the kinds stay
+    stays : (P : ℕ → List Kind → Type 0) → P at.walk.table at.walk.kinds → P begun.walk.table begun.walk.kinds
+    stays P h = subst (λ (ks : List Kind). P begun.walk.table ks) run.kinds (subst (λ (t : ℕ). P t at.walk.kinds) run.table h)
+
+    pub next-fault : (f : MergeFault F) → kept mid now → IsMergeFault (came mid now) at.walk.table at.walk.kinds (IsToLoad at.walk) at.walk.stands f → IsMergeFault (came first now) begun.walk.table begun.walk.kinds (IsToLoad begun.walk) [] f
+    next-fault f k h = fault-then kept came laws begun.walk.table begun.walk.kinds first mid now (IsToLoad begun.walk) (IsToLoad at.walk) [] at.walk.stands f run.asks run.is_kept k run.held (stays (λ (t : ℕ) (ks : List Kind). IsMergeFault (came mid now) t ks (IsToLoad at.walk) at.walk.stands f) h)
+
+    given-still : (e : Entry) → kept mid now → IsOfHeld (came first mid) begun.walk.table begun.walk.kinds (IsToLoad begun.walk) [] e → IsOfHeld (came first now) begun.walk.table begun.walk.kinds (IsToLoad begun.walk) [] e
+    given-still e k h = (h.0, (held-later kept came laws begun.walk.table begun.walk.kinds first mid now (IsToLoad begun.walk) [] h.0 h.1.0 k, h.1.1))
+
+    pub given-later : kept mid now → AllByRecursion (IsOfHeld (came first now) begun.walk.table begun.walk.kinds (IsToLoad begun.walk) []) rows
+    given-later k = all-weaker (IsOfHeld (came first mid) begun.walk.table begun.walk.kinds (IsToLoad begun.walk) []) (IsOfHeld (came first now) begun.walk.table begun.walk.kinds (IsToLoad begun.walk) []) (λ e h. given-still e k h) rows run.given
+
+    pub running-next : (after : RowState) (row : Entry) → kept mid now → AreHeld (came mid now) at.walk.table at.walk.kinds (IsToLoad at.walk) at.walk.stands after.walk.stands
+        → ((layer number : ℕ) → IsToLoad after.walk layer number → IsToLoad at.walk layer number) → IsOfHeld (came mid now) at.walk.table at.walk.kinds (IsToLoad at.walk) at.walk.stands row
         → after.failed ≡ false → after.walk.table ≡ at.walk.table → after.walk.kinds ≡ at.walk.kinds
         → ((w : World) (all : List Entry) → Gives came at.walk.table at.walk.kinds w mid → MergesOver w all at.walk → Gave (Some row) (rows_of all at.walk) (rows_of all after.walk) × MergesOver w all after.walk)
         → IsRunning kept came first now begun after (rows ++ row ∷ []) (turn + 1)
-    running-next after row k held put good table kinds gave = record {
+    running-next after row k held asks put good table kinds gave = record {
       is_kept = laws.chain first mid now run.is_kept k;
+      held = λ m has. held-then kept came laws begun.walk.table begun.walk.kinds first mid now (IsToLoad begun.walk) (IsToLoad at.walk) [] at.walk.stands m run.asks run.is_kept k run.held (stays (λ (t : ℕ) (ks : List Kind). IsHeld (came mid now) t ks (IsToLoad at.walk) at.walk.stands m) (held m has));
+      asks = λ layer number h. run.asks layer number (asks layer number h);
       failed = good;
       table = table ∙ run.table;
       kinds = kinds ∙ run.kinds;
-      held = λ m has. held-then kept came laws begun.walk.table first mid now [] at.walk.stands m run.is_kept k run.held ((rw run.table at held) m has);
-      given = all-append (IsOfHeld (came first now) begun.walk.table []) rows (row ∷ [])
-          (all-weaker (IsOfHeld (came first mid) begun.walk.table []) (IsOfHeld (came first now) begun.walk.table []) (λ e h. (h.0, (held-later kept came laws begun.walk.table first mid now [] h.0 h.1.0 k, h.1.1))) rows run.given)
-          (of-held-then kept came laws begun.walk.table first mid now [] at.walk.stands row run.is_kept k run.held (rw run.table at put), tt);
+      given = all-append (IsOfHeld (came first now) begun.walk.table begun.walk.kinds (IsToLoad begun.walk) []) rows (row ∷ []) (given-later k)
+          (of-held-then kept came laws begun.walk.table begun.walk.kinds first mid now (IsToLoad begun.walk) (IsToLoad at.walk) [] at.walk.stands row run.asks run.is_kept k run.held (stays (λ (t : ℕ) (ks : List Kind). IsOfHeld (came mid now) t ks (IsToLoad at.walk) at.walk.stands row) put), tt);
       world = λ w all gives over.
           let so_far = run.world w all gives over in
           let next = gave w all (gives-mid w gives) so_far.0 in
@@ -74,6 +91,3 @@ module _ {C F : Type 0} (kept : C → C → Type 0) (came : C → C → ℕ → 
         let so_far = run.world w all gives over in
         let last = gave w all (gives-mid w gives) so_far.0 in
         sym (append-nil rows) ∙ (ap (λ (es : List Entry). rows ++ es) (sym last.0.0) ∙ so_far.1)
-
-    pub given-later : kept mid now → AllByRecursion (IsOfHeld (came first now) begun.walk.table []) rows
-    given-later k = all-weaker (IsOfHeld (came first mid) begun.walk.table []) (IsOfHeld (came first now) begun.walk.table []) (λ e h. (h.0, (held-later kept came laws begun.walk.table first mid now [] h.0 h.1.0 k, h.1.1))) rows run.given

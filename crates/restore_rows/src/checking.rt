@@ -1,11 +1,12 @@
 //! The first reading of a restore: each chunk that counts is tested, and none is kept.
-ghost use Rattle.std.specs.Prelude.{◌≡◌, ◌<◌, ◌+◌, None, Some, length, option_map, slice_get};
+ghost use Rattle.std.specs.Prelude.{◌≡◌, ◌<◌, ◌+◌, None, Some, length, option_map, slice_get, IfErr, IfOk};
 ghost use Rattle.chunk_file.specs.Entries.{seen};
 ghost use Rattle.collection_dir.specs.Faults.{DirHasCause};
 ghost use Rattle.layer_merge.specs.Stands.{first_of, goes_on};
 ghost use Rattle.outside_world.specs.Disk.{OnlyReads, Tells};
 ghost use Rattle.layer_manifest.specs.declared.manifest.ChunkInfo.{ChunkInfo};
 ghost use Rattle.restore_rows.specs.Checks.{Finds, check_chunk, check_part, check_parts, last_after, last_in};
+ghost use Rattle.restore_rows.specs.Reading.{IsFaultIn, IsFaultOf, IsNextFault, IsOfDigest};
 
 use chunk_file::{EntryView, HeldChunk, comes_before};
 use collection_dir::DirFault;
@@ -58,7 +59,8 @@ fn may_follow(last: &Option<HeldChunk>, chunk: &HeldChunk) -> bool
     }
 }
 
-/// The chunk of a number, which comes after another, or its fault.
+/// The chunk of a number, which comes after another, or its fault. An error names the chunk
+/// whatever the disk tells.
 fn read_next<D: Disk>(
     alloc: Global,
     disk: &mut D,
@@ -69,6 +71,8 @@ fn read_next<D: Disk>(
     last: &Option<HeldChunk>,
 ) -> Result<HeldChunk, DirFault>
     requires { chunk < length part.now.chunks }
+    ensures held { IfOk result (IsOfDigest part.now table kinds.now chunk) }
+    ensures told { IfErr result (IsNextFault part.now table kinds.now chunk (last_in last.now)) }
     ensures found { (info : ChunkInfo) → Tells (D.view disk.old) → slice_get part.now.chunks chunk ≡ Some info → Finds (λ entries. entries) result (check_chunk part.now table kinds.now (D.view disk.old).objects chunk (last_in last.now) info) }
     ensures reads { OnlyReads (D.view disk.old) (D.view disk.new) }
     ensures cause { DirHasCause (D.view disk.old).faults (D.view disk.new).faults result }
@@ -105,6 +109,7 @@ fn check_chunks<D: Disk>(
     table: u32,
     kinds: &[Kind],
 ) -> Result<(), DirFault>
+    ensures told { IfErr result (IsFaultOf table kinds.now part.now) }
     ensures found { Tells (D.view disk.old) → Finds (λ u. u) result (check_part table kinds.now (D.view disk.old).objects part.now) }
     ensures reads { OnlyReads (D.view disk.old) (D.view disk.new) }
     ensures cause { DirHasCause (D.view disk.old).faults (D.view disk.new).faults result }
@@ -127,6 +132,7 @@ pub fn check_chunks_of<D: Disk>(
     table: u32,
     kinds: &[Kind],
 ) -> Result<(), DirFault>
+    ensures told { IfErr result (IsFaultIn table kinds.now parts.now) }
     ensures found { Tells (D.view disk.old) → Finds (λ u. u) result (check_parts table kinds.now (D.view disk.old).objects parts.now) }
     ensures reads { OnlyReads (D.view disk.old) (D.view disk.new) }
     ensures cause { DirHasCause (D.view disk.old).faults (D.view disk.new).faults result }

@@ -3,9 +3,9 @@ ghost use Rattle.std.specs.Prelude.{◌≡◌, false, [], IfOk, IfErr, OnOk, Lis
 ghost use Rattle.std.specs.List.{AllByRecursion};
 ghost use Rattle.mvcc_keys.specs.declared.entries.Entry.{Entry};
 ghost use Rattle.layer_merge.specs.Loads.{Gives, IsOthers, World};
-ghost use Rattle.layer_merge.specs.Parts.{AreProper, merge_rows};
+ghost use Rattle.layer_merge.specs.Parts.{AreProper, IsCountedChunk, merge_rows};
 ghost use Rattle.layer_merge.specs.Steps.{IsMergeFault, IsOfHeld};
-ghost use Rattle.layer_merge.specs.Walks.{MergesOver, rows_of};
+ghost use Rattle.layer_merge.specs.Walks.{IsToLoad, MergesOver, rows_of};
 
 use layer_merge::{Chunks, MergeFault, Part, RowMerge};
 use mvcc_keys::{Entry, Hlc};
@@ -22,8 +22,8 @@ fn add_rows<C: Chunks>(
     requires none { merge.old.walk.stands ≡ [] }
     requires empty { rows.old.items ≡ [] }
     ensures kept { C.kept chunks.old chunks.new }
-    ensures fault { IfErr result (IsMergeFault (C.came chunks.old chunks.new) merge.old.walk.table merge.old.walk.kinds []) }
-    ensures given { OnOk result (AllByRecursion (IsOfHeld (C.came chunks.old chunks.new) merge.old.walk.table []) rows.new.items) }
+    ensures fault { IfErr result (IsMergeFault (C.came chunks.old chunks.new) merge.old.walk.table merge.old.walk.kinds (IsToLoad merge.old.walk) []) }
+    ensures given { OnOk result (AllByRecursion (IsOfHeld (C.came chunks.old chunks.new) merge.old.walk.table merge.old.walk.kinds (IsToLoad merge.old.walk) []) rows.new.items) }
     ensures sound { (w : World) (all : List Entry) → Gives C.came merge.old.walk.table merge.old.walk.kinds w chunks.old → MergesOver w all merge.old.walk → IfErr result IsOthers }
     ensures rows { (w : World) (all : List Entry) → Gives C.came merge.old.walk.table merge.old.walk.kinds w chunks.old → MergesOver w all merge.old.walk → OnOk result (rows.new.items ≡ rows_of all merge.old.walk) }
 {
@@ -51,8 +51,8 @@ pub fn merged_rows<C: Chunks>(
     t: Hlc,
 ) -> Result<Vec<Entry>, MergeFault<C::Fault>>
     ensures kept { C.kept chunks.old chunks.new }
-    ensures fault { IfErr result (IsMergeFault (C.came chunks.old chunks.new) table kinds.now []) }
-    ensures given { IfOk result (λ v. AllByRecursion (IsOfHeld (C.came chunks.old chunks.new) table []) v.items) }
+    ensures fault { IfErr result (IsMergeFault (C.came chunks.old chunks.new) table kinds.now (IsCountedChunk parts.now) []) }
+    ensures given { IfOk result (λ v. AllByRecursion (IsOfHeld (C.came chunks.old chunks.new) table kinds.now (IsCountedChunk parts.now) []) v.items) }
     ensures sound { (w : World) → Gives C.came table kinds.now w chunks.old → AreProper w parts.now → IfErr result IsOthers }
     ensures rows { (w : World) → Gives C.came table kinds.now w chunks.old → AreProper w parts.now → IfOk result (λ v. v.items ≡ merge_rows w parts.now t) }
 {

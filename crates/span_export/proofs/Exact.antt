@@ -33,10 +33,10 @@ use Rattle.list_laws.proofs.Filters.{any-none, none-any}
 
 -- ---- visible puts
 
-image-shown : (t : Time) (fs : List ByteFact) (f : ByteFact) → Has f (image bytes_cmp t fs) → IsShown t fs f
+pub image-shown : (t : Time) (fs : List ByteFact) (f : ByteFact) → Has f (image bytes_cmp t fs) → IsShown t fs f
 image-shown t fs f h = let m = scanned.image-has bytes_cmp bytes_order t fs f h in subst (IsShown t fs) (sym m.3) m.2
 
-shown-image : (t : Time) (fs : List ByteFact) (f : ByteFact) → IsShown t fs f → Has f (image bytes_cmp t fs)
+pub shown-image : (t : Time) (fs : List ByteFact) (f : ByteFact) → IsShown t fs f → Has f (image bytes_cmp t fs)
 shown-image t fs (Fact.Put k v at) e = scanned.has-image bytes_cmp bytes_order t fs k (record { value = v; at = at }) e
 shown-image t fs (Fact.Del k at) e = absurd e
 shown-image t fs (Fact.DelRange lo hi at) e = absurd e

@@ -50,21 +50,21 @@ date-coded id kinds (Put key cells at) = refl
 date-coded id kinds (Del key at) = refl
 date-coded id kinds (DelRange lo hi at) = refl
 
-point-coded : (id : ℕ) (kinds : List Kind) (f : RowFact) → is_point (coded id kinds f) ≡ is_point f
+pub point-coded : (id : ℕ) (kinds : List Kind) (f : RowFact) → is_point (coded id kinds f) ≡ is_point f
 point-coded id kinds (Put key cells at) = refl
 point-coded id kinds (Del key at) = refl
 point-coded id kinds (DelRange lo hi at) = refl
 
-touches-coded : (id : ℕ) (kinds : List Kind) → id < 2 ^ 32 → (k : Key) (f : RowFact) → IsKey kinds k → IsRowFact kinds f → touches bytes_cmp (row_key id kinds k) (coded id kinds f) ≡ touches (row_cmp kinds) k f
+pub touches-coded : (id : ℕ) (kinds : List Kind) → id < 2 ^ 32 → (k : Key) (f : RowFact) → IsKey kinds k → IsRowFact kinds f → touches bytes_cmp (row_key id kinds k) (coded id kinds f) ≡ touches (row_cmp kinds) k f
 touches-coded id kinds small k (Put key cells at) p is = ap is_eq (keys-ordered id kinds small key k is.0 p)
 touches-coded id kinds small k (Del key at) p is = ap is_eq (keys-ordered id kinds small key k is p)
 touches-coded id kinds small k (DelRange lo hi at) p is = ap₂ (λ (a b : Ordering). is_le a && is_lt b) (keys-ordered id kinds small lo k is.0 p) (keys-ordered id kinds small k hi p is.1)
 
 -- a key in bytes that a put or a deletion touches is that of its key
-abbrev TouchedAs : ℕ → List Kind → Bytes → RowFact → Type 0
+abbrev pub TouchedAs : ℕ → List Kind → Bytes → RowFact → Type 0
 TouchedAs id kinds b f = (k : Key) × IsKey kinds k × (b ≡ row_key id kinds k)
 
-touched-point : (id : ℕ) (kinds : List Kind) (b : Bytes) (f : RowFact) → IsRowFact kinds f → is_point f ≡ true → touches bytes_cmp b (coded id kinds f) ≡ true → TouchedAs id kinds b f
+pub touched-point : (id : ℕ) (kinds : List Kind) (b : Bytes) (f : RowFact) → IsRowFact kinds f → is_point f ≡ true → touches bytes_cmp b (coded id kinds f) ≡ true → TouchedAs id kinds b f
 touched-point id kinds b (Put key cells at) is p t = (key, is.0, sym (same-bytes (row_key id kinds key) b t))
 touched-point id kinds b (Del key at) is p t = (key, is, sym (same-bytes (row_key id kinds key) b t))
 touched-point id kinds b (DelRange lo hi at) is p t = cc p

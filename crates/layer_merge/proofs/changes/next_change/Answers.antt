@@ -20,10 +20,10 @@ pub returns-clause-step : goal.returns-clause-step
 returns-clause-step g c =
     let e : is_err c.put_back.result ≡ false = cc in
     let found-step = rw c.in-Ok-Some.field-0-is at c.in-Ok-Some.ensures.step in
-    step-permuted _ _ (record { same = g.met.C.Chunks.kept_same; chain = g.met.C.Chunks.kept_chain; later = g.met.C.Chunks.came_later; earlier = g.met.C.Chunks.came_earlier }) _ _ _ _ _ _ _ _ (on-ok _ _ e c.put_back.ensures.items) found-step
+    step-permuted _ _ (record { same = g.met.C.Chunks.kept_same; chain = g.met.C.Chunks.kept_chain; later = g.met.C.Chunks.came_later; earlier = g.met.C.Chunks.came_earlier }) _ _ _ _ _ _ _ _ _ (on-ok _ _ e c.put_back.ensures.items) found-step
 
 pub returns-then-is_err-clause-step : goal.returns-then-is_err-clause-step
 returns-then-is_err-clause-step g c =
     let e : is_err c.put_back.result ≡ true = cc in
     let found-step = rw c.in-Ok-Some.field-0-is at c.in-Ok-Some.ensures.step in
-    rw (on-err _ _ e c.put_back.ensures.refused) (step-fewer _ _ (record { same = g.met.C.Chunks.kept_same; chain = g.met.C.Chunks.kept_chain; later = g.met.C.Chunks.came_later; earlier = g.met.C.Chunks.came_earlier }) _ _ _ _ _ (c.in-Ok-Some.top ∷ []) _ _ found-step)
+    rw (on-err _ _ e c.put_back.ensures.refused) (step-fewer _ _ (record { same = g.met.C.Chunks.kept_same; chain = g.met.C.Chunks.kept_chain; later = g.met.C.Chunks.came_later; earlier = g.met.C.Chunks.came_earlier }) _ _ _ _ _ _ (c.in-Ok-Some.top ∷ []) _ _ found-step)

@@ -29,27 +29,27 @@ loop-top-preserved g c =
     let back = on-ok _ _ e c.put_back.ensures.items in
     record {
       heap = c.put_back.ensures.heap;
-      step = step-moved _ _ (record { same = g.met.C.Chunks.kept_same; chain = g.met.C.Chunks.kept_chain; later = g.met.C.Chunks.came_later; earlier = g.met.C.Chunks.came_earlier }) _ _ _ _ _ _ _ _ _ (option_to_list c.in-Ok.moved) c.in-Some.top _ c.in-Some.ensures.permutation back c.loop-top.invariant.step c.in-Ok.ensures.step;
+      step = step-moved _ _ (record { same = g.met.C.Chunks.kept_same; chain = g.met.C.Chunks.kept_chain; later = g.met.C.Chunks.came_later; earlier = g.met.C.Chunks.came_earlier }) _ _ _ _ _ _ _ _ _ _ (option_to_list c.in-Ok.moved) c.in-Some.top _ c.in-Some.ensures.permutation back c.loop-top.invariant.step c.in-Ok.ensures.step;
       room = omega (arith, c.loop-top.invariant.room, room-stepped _ _ _ c.in-Some.top c.in-Ok.moved c.in-Some.ensures.permutation back c.in-Ok.ensures.shorter);
       world = λ w all gives at. at-stepped w _ _ all _ _ _ c.in-Some.top c.in-Ok.moved c.in-Some.ensures.permutation back (sym c.is_counted.ensures ∙ c.if-is_counted.false) (c.in-Ok.ensures.world w (λ to layer number bytes h. gives to layer number bytes (g.met.C.Chunks.came_later _ _ _ _ _ _ _ c.loop-top.invariant.step.kept h))) (c.loop-top.invariant.world w all gives at);
     }
 
 pub loop-top-init : goal.loop-top-init
-loop-top-init g c = record { heap = c.requires; step = step-none _ _ (record { same = g.met.C.Chunks.kept_same; chain = g.met.C.Chunks.kept_chain; later = g.met.C.Chunks.came_later; earlier = g.met.C.Chunks.came_earlier }) _ _ _ _ _; room = omega arith; world = λ w all gives at. at }
+loop-top-init g c = record { heap = c.requires; step = step-none _ _ (record { same = g.met.C.Chunks.kept_same; chain = g.met.C.Chunks.kept_chain; later = g.met.C.Chunks.came_later; earlier = g.met.C.Chunks.came_earlier }) _ _ _ _ _ _; room = omega arith; world = λ w all gives at. at }
 
 pub returns-then-is_counted-clause-step : goal.returns-then-is_counted-clause-step
-returns-then-is_counted-clause-step g c = step-permuted _ _ (record { same = g.met.C.Chunks.kept_same; chain = g.met.C.Chunks.kept_chain; later = g.met.C.Chunks.came_later; earlier = g.met.C.Chunks.came_earlier }) _ _ _ _ _ _ _ _ c.in-Some.ensures.permutation c.loop-top.invariant.step
+returns-then-is_counted-clause-step g c = step-permuted _ _ (record { same = g.met.C.Chunks.kept_same; chain = g.met.C.Chunks.kept_chain; later = g.met.C.Chunks.came_later; earlier = g.met.C.Chunks.came_earlier }) _ _ _ _ _ _ _ _ _ c.in-Some.ensures.permutation c.loop-top.invariant.step
 
 pub returns-in-Err-clause-step : goal.returns-in-Err-clause-step
-returns-in-Err-clause-step g c = step-over _ _ (record { same = g.met.C.Chunks.kept_same; chain = g.met.C.Chunks.kept_chain; later = g.met.C.Chunks.came_later; earlier = g.met.C.Chunks.came_earlier }) _ _ _ _ _ _ _ _ [] c.in-Some.top _ c.in-Some.ensures.permutation c.loop-top.invariant.step c.in-Err.ensures.step
+returns-in-Err-clause-step g c = step-over _ _ (record { same = g.met.C.Chunks.kept_same; chain = g.met.C.Chunks.kept_chain; later = g.met.C.Chunks.came_later; earlier = g.met.C.Chunks.came_earlier }) _ _ _ _ _ _ _ _ _ [] c.in-Some.top _ c.in-Some.ensures.permutation c.loop-top.invariant.step c.in-Err.ensures.step
 
 pub returns-in-Err-clause-fault : goal.returns-in-Err-clause-fault
-returns-in-Err-clause-fault g c = fault-over _ _ (record { same = g.met.C.Chunks.kept_same; chain = g.met.C.Chunks.kept_chain; later = g.met.C.Chunks.came_later; earlier = g.met.C.Chunks.came_earlier }) _ _ _ _ _ _ _ _ _ c.in-Some.top _ _ _ c.in-Some.ensures.permutation c.loop-top.invariant.step c.in-Err.ensures.step.kept c.in-Err.ensures.fault
+returns-in-Err-clause-fault g c = fault-over _ _ (record { same = g.met.C.Chunks.kept_same; chain = g.met.C.Chunks.kept_chain; later = g.met.C.Chunks.came_later; earlier = g.met.C.Chunks.came_earlier }) _ _ _ _ _ _ _ _ _ c.in-Some.top _ _ c.in-Some.ensures.permutation c.loop-top.invariant.step c.in-Err.ensures.step.kept c.in-Err.ensures.fault
 
 pub returns-then-is_err-clause-step : goal.returns-then-is_err-clause-step
 returns-then-is_err-clause-step g c =
     let e : is_err c.put_back.result ≡ true = cc in
-    step-dropped _ _ (record { same = g.met.C.Chunks.kept_same; chain = g.met.C.Chunks.kept_chain; later = g.met.C.Chunks.came_later; earlier = g.met.C.Chunks.came_earlier }) _ _ _ _ _ _ _ _ _ (option_to_list c.in-Ok.moved) c.in-Some.top _ (on-err _ _ e c.put_back.ensures.refused) c.in-Some.ensures.permutation c.loop-top.invariant.step c.in-Ok.ensures.step
+    step-dropped _ _ (record { same = g.met.C.Chunks.kept_same; chain = g.met.C.Chunks.kept_chain; later = g.met.C.Chunks.came_later; earlier = g.met.C.Chunks.came_earlier }) _ _ _ _ _ _ _ _ _ _ (option_to_list c.in-Ok.moved) c.in-Some.top _ (on-err _ _ e c.put_back.ensures.refused) c.in-Some.ensures.permutation c.loop-top.invariant.step c.in-Ok.ensures.step
 
 pub returns-clause-step : goal.returns-clause-step
 returns-clause-step g c = rw c.in_default.ensures.unchanged.0 c.loop-top.invariant.step

@@ -10,7 +10,7 @@ use Rattle.layer_merge.proofs.points.find.Given as goal
 abbrev pub invariant-loop-top : goal.invariant-loop-top
 invariant-loop-top g l = record {
   heap : IsHeap stand_cmp (heap_items l.cursors);
-  step : IsStep g.C.Chunks.kept g.C.Chunks.came g.C.Chunks.loads l.table l.initial.chunks l.chunks (heap_items l.initial.cursors) (heap_items l.cursors) (λ x. to_load l.table x (heap_items l.initial.cursors)) (λ x. to_load l.table x (heap_items l.cursors));
+  step : IsStep g.C.Chunks.kept g.C.Chunks.came g.C.Chunks.loads l.table l.kinds l.initial.chunks l.chunks (heap_items l.initial.cursors) (heap_items l.cursors) (λ x. to_load l.table x (heap_items l.initial.cursors)) (λ x. to_load l.table x (heap_items l.cursors));
   room : sum_by room (heap_items l.cursors) ≤ sum_by room (heap_items l.initial.cursors);
   world : (w : World) (all : List Entry) → Gives g.C.Chunks.came l.table l.kinds w l.initial.chunks → AreAt w l.wanted l.done all (heap_items l.initial.cursors) → AreAt w l.wanted l.done all (heap_items l.cursors);
 }

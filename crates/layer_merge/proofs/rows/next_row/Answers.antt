@@ -4,7 +4,7 @@ use Rattle.std.specs.BinaryHeap.{heap_items}
 use Rattle.layer_merge.proofs.StandLaws.{room-after}
 use Rattle.list_laws.proofs.Results.{on-err, on-ok}
 use Rattle.layer_merge.proofs.RowSteps.{row-ended, row-given, row-passed}
-use Rattle.layer_merge.proofs.StepLaws.{fault-over, fault-then, step-dropped, step-fewer, step-moved, step-none, step-over, step-permuted, step-then}
+use Rattle.layer_merge.proofs.StepLaws.{fault-after, fault-over, step-dropped, step-fewer, step-moved, step-none, step-over, step-permuted, step-then}
 use Rattle.std.proofs.lemmas.List.Sorted.{IsPermutation-refl as itself}
 use Rattle.layer_merge.proofs.rows.next_row.Goals as goal
 
@@ -48,7 +48,7 @@ loop-top-preserved g c =
     let found-step = rw c.in-Ok-Some.field-0-is at c.in-Ok-Some.ensures.step in
     record {
       heap = c.put_back-in-loop-top.ensures.heap;
-      step = step-moved _ _ (record { same = g.met.C.Chunks.kept_same; chain = g.met.C.Chunks.kept_chain; later = g.met.C.Chunks.came_later; earlier = g.met.C.Chunks.came_earlier }) _ _ _ _ _ _ _ _ _ (option_to_list c.in-Ok-moved.moved) c.in-Ok-Some.top _ (itself _) (on-ok _ _ e c.put_back-in-loop-top.ensures.items) (step-then _ _ (record { same = g.met.C.Chunks.kept_same; chain = g.met.C.Chunks.kept_chain; later = g.met.C.Chunks.came_later; earlier = g.met.C.Chunks.came_earlier }) _ _ _ _ _ _ _ _ _ _ _ c.loop-top.invariant.step found-step) c.in-Ok-moved.ensures.step;
+      step = step-moved _ _ (record { same = g.met.C.Chunks.kept_same; chain = g.met.C.Chunks.kept_chain; later = g.met.C.Chunks.came_later; earlier = g.met.C.Chunks.came_earlier }) _ _ _ _ _ _ _ _ _ _ (option_to_list c.in-Ok-moved.moved) c.in-Ok-Some.top _ (itself _) (on-ok _ _ e c.put_back-in-loop-top.ensures.items) (step-then _ _ (record { same = g.met.C.Chunks.kept_same; chain = g.met.C.Chunks.kept_chain; later = g.met.C.Chunks.came_later; earlier = g.met.C.Chunks.came_earlier }) _ _ _ _ _ _ _ _ _ _ _ _ c.loop-top.invariant.step found-step) c.in-Ok-moved.ensures.step;
       world = λ w all gives apart ranges at.
           let inv = c.loop-top.invariant.world w all gives apart ranges at in
           let found = rw c.in-Ok-Some.field-0-is at c.in-Ok-Some.ensures.world in
@@ -57,34 +57,34 @@ loop-top-preserved g c =
     }
 
 pub loop-top-init : goal.loop-top-init
-loop-top-init g c = record { heap = c.requires.heap; step = step-none _ _ (record { same = g.met.C.Chunks.kept_same; chain = g.met.C.Chunks.kept_chain; later = g.met.C.Chunks.came_later; earlier = g.met.C.Chunks.came_earlier }) _ _ _ _ _; world = λ w all gives apart ranges at. (refl, at) }
+loop-top-init g c = record { heap = c.requires.heap; step = step-none _ _ (record { same = g.met.C.Chunks.kept_same; chain = g.met.C.Chunks.kept_chain; later = g.met.C.Chunks.came_later; earlier = g.met.C.Chunks.came_earlier }) _ _ _ _ _ _; world = λ w all gives apart ranges at. (refl, at) }
 
 pub returns-in-Ok-None-clause-step : goal.returns-in-Ok-None-clause-step
 returns-in-Ok-None-clause-step g c =
     let found-step = rw c.in-Ok-None.field-0-is at c.in-Ok-None.ensures.step in
-    step-then _ _ (record { same = g.met.C.Chunks.kept_same; chain = g.met.C.Chunks.kept_chain; later = g.met.C.Chunks.came_later; earlier = g.met.C.Chunks.came_earlier }) _ _ _ _ _ _ _ _ _ _ _ c.loop-top.invariant.step found-step
+    step-then _ _ (record { same = g.met.C.Chunks.kept_same; chain = g.met.C.Chunks.kept_chain; later = g.met.C.Chunks.came_later; earlier = g.met.C.Chunks.came_earlier }) _ _ _ _ _ _ _ _ _ _ _ _ c.loop-top.invariant.step found-step
 
 pub returns-in-Err-clause-step : goal.returns-in-Err-clause-step
-returns-in-Err-clause-step g c = step-then _ _ (record { same = g.met.C.Chunks.kept_same; chain = g.met.C.Chunks.kept_chain; later = g.met.C.Chunks.came_later; earlier = g.met.C.Chunks.came_earlier }) _ _ _ _ _ _ _ _ _ _ _ c.loop-top.invariant.step c.in-Err.ensures.step
+returns-in-Err-clause-step g c = step-then _ _ (record { same = g.met.C.Chunks.kept_same; chain = g.met.C.Chunks.kept_chain; later = g.met.C.Chunks.came_later; earlier = g.met.C.Chunks.came_earlier }) _ _ _ _ _ _ _ _ _ _ _ _ c.loop-top.invariant.step c.in-Err.ensures.step
 
 pub returns-in-Err-clause-fault : goal.returns-in-Err-clause-fault
-returns-in-Err-clause-fault g c = fault-then _ _ (record { same = g.met.C.Chunks.kept_same; chain = g.met.C.Chunks.kept_chain; later = g.met.C.Chunks.came_later; earlier = g.met.C.Chunks.came_earlier }) _ _ _ _ _ _ _ _ c.loop-top.invariant.step.kept c.in-Err.ensures.step.kept c.loop-top.invariant.step.held c.in-Err.ensures.fault
+returns-in-Err-clause-fault g c = fault-after _ _ (record { same = g.met.C.Chunks.kept_same; chain = g.met.C.Chunks.kept_chain; later = g.met.C.Chunks.came_later; earlier = g.met.C.Chunks.came_earlier }) _ _ _ _ _ _ _ _ _ _ _ c.loop-top.invariant.step c.in-Err.ensures.step.kept c.in-Err.ensures.fault
 
 pub returns-in-Err-decide-clause-step : goal.returns-in-Err-decide-clause-step
 returns-in-Err-decide-clause-step g c =
     let found-step = rw c.in-Ok-Some.field-0-is at c.in-Ok-Some.ensures.step in
-    step-fewer _ _ (record { same = g.met.C.Chunks.kept_same; chain = g.met.C.Chunks.kept_chain; later = g.met.C.Chunks.came_later; earlier = g.met.C.Chunks.came_earlier }) _ _ _ _ _ (c.in-Ok-Some.top ∷ []) _ _ (step-then _ _ (record { same = g.met.C.Chunks.kept_same; chain = g.met.C.Chunks.kept_chain; later = g.met.C.Chunks.came_later; earlier = g.met.C.Chunks.came_earlier }) _ _ _ _ _ _ _ _ _ _ _ c.loop-top.invariant.step found-step)
+    step-fewer _ _ (record { same = g.met.C.Chunks.kept_same; chain = g.met.C.Chunks.kept_chain; later = g.met.C.Chunks.came_later; earlier = g.met.C.Chunks.came_earlier }) _ _ _ _ _ _ (c.in-Ok-Some.top ∷ []) _ _ (step-then _ _ (record { same = g.met.C.Chunks.kept_same; chain = g.met.C.Chunks.kept_chain; later = g.met.C.Chunks.came_later; earlier = g.met.C.Chunks.came_earlier }) _ _ _ _ _ _ _ _ _ _ _ _ c.loop-top.invariant.step found-step)
 
 pub returns-in-Some-clause-step : goal.returns-in-Some-clause-step
 returns-in-Some-clause-step g c =
     let e : is_err c.put_back.result ≡ false = cc in
     let found-step = rw c.in-Ok-Some.field-0-is at c.in-Ok-Some.ensures.step in
-    step-permuted _ _ (record { same = g.met.C.Chunks.kept_same; chain = g.met.C.Chunks.kept_chain; later = g.met.C.Chunks.came_later; earlier = g.met.C.Chunks.came_earlier }) _ _ _ _ _ _ _ _ (on-ok _ _ e c.put_back.ensures.items) (step-then _ _ (record { same = g.met.C.Chunks.kept_same; chain = g.met.C.Chunks.kept_chain; later = g.met.C.Chunks.came_later; earlier = g.met.C.Chunks.came_earlier }) _ _ _ _ _ _ _ _ _ _ _ c.loop-top.invariant.step found-step)
+    step-permuted _ _ (record { same = g.met.C.Chunks.kept_same; chain = g.met.C.Chunks.kept_chain; later = g.met.C.Chunks.came_later; earlier = g.met.C.Chunks.came_earlier }) _ _ _ _ _ _ _ _ _ (on-ok _ _ e c.put_back.ensures.items) (step-then _ _ (record { same = g.met.C.Chunks.kept_same; chain = g.met.C.Chunks.kept_chain; later = g.met.C.Chunks.came_later; earlier = g.met.C.Chunks.came_earlier }) _ _ _ _ _ _ _ _ _ _ _ _ c.loop-top.invariant.step found-step)
 
 pub returns-in-Some-clause-put : goal.returns-in-Some-clause-put
 returns-in-Some-clause-put g c =
     let found-step = rw c.in-Ok-Some.field-0-is at c.in-Ok-Some.ensures.step in
-    let one = (step-then _ _ (record { same = g.met.C.Chunks.kept_same; chain = g.met.C.Chunks.kept_chain; later = g.met.C.Chunks.came_later; earlier = g.met.C.Chunks.came_earlier }) _ _ _ _ _ _ _ _ _ _ _ c.loop-top.invariant.step found-step) in
+    let one = (step-then _ _ (record { same = g.met.C.Chunks.kept_same; chain = g.met.C.Chunks.kept_chain; later = g.met.C.Chunks.came_later; earlier = g.met.C.Chunks.came_earlier }) _ _ _ _ _ _ _ _ _ _ _ _ c.loop-top.invariant.step found-step) in
     let among = rw c.in-Some.is at c.in-Ok.ensures.among in
     (c.in-Ok-Some.top, (one.held c.in-Ok-Some.top (inl refl), among))
 
@@ -92,20 +92,20 @@ pub returns-then-is_err-clause-step : goal.returns-then-is_err-clause-step
 returns-then-is_err-clause-step g c =
     let e : is_err c.put_back.result ≡ true = cc in
     let found-step = rw c.in-Ok-Some.field-0-is at c.in-Ok-Some.ensures.step in
-    rw (on-err _ _ e c.put_back.ensures.refused) (step-fewer _ _ (record { same = g.met.C.Chunks.kept_same; chain = g.met.C.Chunks.kept_chain; later = g.met.C.Chunks.came_later; earlier = g.met.C.Chunks.came_earlier }) _ _ _ _ _ (c.in-Ok-Some.top ∷ []) _ _ (step-then _ _ (record { same = g.met.C.Chunks.kept_same; chain = g.met.C.Chunks.kept_chain; later = g.met.C.Chunks.came_later; earlier = g.met.C.Chunks.came_earlier }) _ _ _ _ _ _ _ _ _ _ _ c.loop-top.invariant.step found-step))
+    rw (on-err _ _ e c.put_back.ensures.refused) (step-fewer _ _ (record { same = g.met.C.Chunks.kept_same; chain = g.met.C.Chunks.kept_chain; later = g.met.C.Chunks.came_later; earlier = g.met.C.Chunks.came_earlier }) _ _ _ _ _ _ (c.in-Ok-Some.top ∷ []) _ _ (step-then _ _ (record { same = g.met.C.Chunks.kept_same; chain = g.met.C.Chunks.kept_chain; later = g.met.C.Chunks.came_later; earlier = g.met.C.Chunks.came_earlier }) _ _ _ _ _ _ _ _ _ _ _ _ c.loop-top.invariant.step found-step))
 
 pub returns-in-Err-moved-clause-step : goal.returns-in-Err-moved-clause-step
 returns-in-Err-moved-clause-step g c =
     let found-step = rw c.in-Ok-Some.field-0-is at c.in-Ok-Some.ensures.step in
-    step-over _ _ (record { same = g.met.C.Chunks.kept_same; chain = g.met.C.Chunks.kept_chain; later = g.met.C.Chunks.came_later; earlier = g.met.C.Chunks.came_earlier }) _ _ _ _ _ _ _ _ [] c.in-Ok-Some.top _ (itself _) (step-then _ _ (record { same = g.met.C.Chunks.kept_same; chain = g.met.C.Chunks.kept_chain; later = g.met.C.Chunks.came_later; earlier = g.met.C.Chunks.came_earlier }) _ _ _ _ _ _ _ _ _ _ _ c.loop-top.invariant.step found-step) c.in-Err-moved.ensures.step
+    step-over _ _ (record { same = g.met.C.Chunks.kept_same; chain = g.met.C.Chunks.kept_chain; later = g.met.C.Chunks.came_later; earlier = g.met.C.Chunks.came_earlier }) _ _ _ _ _ _ _ _ _ [] c.in-Ok-Some.top _ (itself _) (step-then _ _ (record { same = g.met.C.Chunks.kept_same; chain = g.met.C.Chunks.kept_chain; later = g.met.C.Chunks.came_later; earlier = g.met.C.Chunks.came_earlier }) _ _ _ _ _ _ _ _ _ _ _ _ c.loop-top.invariant.step found-step) c.in-Err-moved.ensures.step
 
 pub returns-in-Err-moved-clause-fault : goal.returns-in-Err-moved-clause-fault
 returns-in-Err-moved-clause-fault g c =
     let found-step = rw c.in-Ok-Some.field-0-is at c.in-Ok-Some.ensures.step in
-    fault-over _ _ (record { same = g.met.C.Chunks.kept_same; chain = g.met.C.Chunks.kept_chain; later = g.met.C.Chunks.came_later; earlier = g.met.C.Chunks.came_earlier }) _ _ _ _ _ _ _ _ _ c.in-Ok-Some.top _ _ _ (itself _) (step-then _ _ (record { same = g.met.C.Chunks.kept_same; chain = g.met.C.Chunks.kept_chain; later = g.met.C.Chunks.came_later; earlier = g.met.C.Chunks.came_earlier }) _ _ _ _ _ _ _ _ _ _ _ c.loop-top.invariant.step found-step) c.in-Err-moved.ensures.step.kept c.in-Err-moved.ensures.fault
+    fault-over _ _ (record { same = g.met.C.Chunks.kept_same; chain = g.met.C.Chunks.kept_chain; later = g.met.C.Chunks.came_later; earlier = g.met.C.Chunks.came_earlier }) _ _ _ _ _ _ _ _ _ c.in-Ok-Some.top _ _ (itself _) (step-then _ _ (record { same = g.met.C.Chunks.kept_same; chain = g.met.C.Chunks.kept_chain; later = g.met.C.Chunks.came_later; earlier = g.met.C.Chunks.came_earlier }) _ _ _ _ _ _ _ _ _ _ _ _ c.loop-top.invariant.step found-step) c.in-Err-moved.ensures.step.kept c.in-Err-moved.ensures.fault
 
 pub returns-then-is_err-2-clause-step : goal.returns-then-is_err-2-clause-step
 returns-then-is_err-2-clause-step g c =
     let e : is_err c.put_back-in-loop-top.result ≡ true = cc in
     let found-step = rw c.in-Ok-Some.field-0-is at c.in-Ok-Some.ensures.step in
-    step-dropped _ _ (record { same = g.met.C.Chunks.kept_same; chain = g.met.C.Chunks.kept_chain; later = g.met.C.Chunks.came_later; earlier = g.met.C.Chunks.came_earlier }) _ _ _ _ _ _ _ _ _ (option_to_list c.in-Ok-moved.moved) c.in-Ok-Some.top _ (on-err _ _ e c.put_back-in-loop-top.ensures.refused) (itself _) (step-then _ _ (record { same = g.met.C.Chunks.kept_same; chain = g.met.C.Chunks.kept_chain; later = g.met.C.Chunks.came_later; earlier = g.met.C.Chunks.came_earlier }) _ _ _ _ _ _ _ _ _ _ _ c.loop-top.invariant.step found-step) c.in-Ok-moved.ensures.step
+    step-dropped _ _ (record { same = g.met.C.Chunks.kept_same; chain = g.met.C.Chunks.kept_chain; later = g.met.C.Chunks.came_later; earlier = g.met.C.Chunks.came_earlier }) _ _ _ _ _ _ _ _ _ _ (option_to_list c.in-Ok-moved.moved) c.in-Ok-Some.top _ (on-err _ _ e c.put_back-in-loop-top.ensures.refused) (itself _) (step-then _ _ (record { same = g.met.C.Chunks.kept_same; chain = g.met.C.Chunks.kept_chain; later = g.met.C.Chunks.came_later; earlier = g.met.C.Chunks.came_earlier }) _ _ _ _ _ _ _ _ _ _ _ _ c.loop-top.invariant.step found-step) c.in-Ok-moved.ensures.step

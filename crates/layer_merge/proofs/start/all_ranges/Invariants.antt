@@ -7,7 +7,7 @@ use Rattle.layer_merge.proofs.start.all_ranges.Given as goal
 
 abbrev pub invariant-loop-part : goal.invariant-loop-part
 invariant-loop-part g l = record {
-  step : IsStep g.C.Chunks.kept g.C.Chunks.came g.C.Chunks.loads l.table l.initial.chunks l.chunks [] [] (λ x. to_begin l.table x l.initial.waiting.items) (λ x. to_begin l.table x l.waiting.items);
+  step : IsStep g.C.Chunks.kept g.C.Chunks.came g.C.Chunks.loads l.table l.kinds l.initial.chunks l.chunks [] [] (λ x. to_begin l.table x l.initial.waiting.items) (λ x. to_begin l.table x l.waiting.items);
   fewer : (x : Load) → to_begin l.table x l.ready.items + to_begin l.table x l.waiting.items ≤ to_begin l.table x l.initial.waiting.items;
   world : (w : World) → Gives g.C.Chunks.came l.table l.kinds w l.initial.chunks → AreInOrder w l.initial.waiting.items
       → RangesSoFar w (parts_entries w l.initial.waiting.items) l.waiting.items l.ready.items l.initial.ranges l.ranges;

@@ -6,7 +6,7 @@ use Rattle.layer_merge.specs.Starts.{BegunSoFar}
 use Rattle.list_laws.proofs.Results.{on-err, on-ok}
 use Rattle.layer_merge.proofs.StartLaws.{begun-more, none-left}
 use Rattle.layer_merge.specs.Steps.{to_begin}
-use Rattle.layer_merge.proofs.StepLaws.{fault-then, step-all, step-begun, step-none, step-unbegun}
+use Rattle.layer_merge.proofs.StepLaws.{begin-fault, step-all, step-begun, step-none, step-unbegun}
 use Rattle.layer_merge.proofs.start.begin_all.Goals as goal
 
 pub loop-part-preserved : goal.loop-part-preserved
@@ -14,7 +14,7 @@ loop-part-preserved g c =
     let e : is_err c.put_back.result ≡ false = cc in
     record {
       heap = c.put_back.ensures.heap;
-      step = step-begun _ _ (record { same = g.met.C.Chunks.kept_same; chain = g.met.C.Chunks.kept_chain; later = g.met.C.Chunks.came_later; earlier = g.met.C.Chunks.came_earlier }) _ _ _ _ _ _ _ _ (option_to_list c.in-Ok.first) _ _ c.in-Some.part _ c.in-Some.ensures.items (on-ok _ _ e c.put_back.ensures.items) c.loop-part.invariant.step c.in-Ok.ensures.step;
+      step = step-begun _ _ (record { same = g.met.C.Chunks.kept_same; chain = g.met.C.Chunks.kept_chain; later = g.met.C.Chunks.came_later; earlier = g.met.C.Chunks.came_earlier }) _ _ _ _ _ _ _ _ _ (option_to_list c.in-Ok.first) _ _ c.in-Some.part _ c.in-Some.ensures.items (on-ok _ _ e c.put_back.ensures.items) c.loop-part.invariant.step c.in-Ok.ensures.step;
       world = λ w v done all gives b. begun-more w v done all _ _ c.in-Some.part c.in-Ok.first _ _ c.in-Some.ensures.items (c.in-Ok.ensures.world w (λ to layer number bytes h. gives to layer number bytes (g.met.C.Chunks.came_later _ _ _ _ _ _ _ c.loop-part.invariant.step.kept h))) (on-ok _ _ e c.put_back.ensures.items) (c.loop-part.invariant.world w v done all gives b);
     }
 
@@ -24,13 +24,13 @@ returns-clause-world g c = λ w v done all gives b.
     subst (λ (l : List Waiting). BegunSoFar w v done all l (heap_items c.loop-part.cursors)) e (c.loop-part.invariant.world w v done all gives b)
 
 pub loop-part-init : goal.loop-part-init
-loop-part-init g c = record { heap = c.requires; step = step-none _ _ (record { same = g.met.C.Chunks.kept_same; chain = g.met.C.Chunks.kept_chain; later = g.met.C.Chunks.came_later; earlier = g.met.C.Chunks.came_earlier }) _ _ _ _ _; world = λ w v done all gives b. b }
+loop-part-init g c = record { heap = c.requires; step = step-none _ _ (record { same = g.met.C.Chunks.kept_same; chain = g.met.C.Chunks.kept_chain; later = g.met.C.Chunks.came_later; earlier = g.met.C.Chunks.came_earlier }) _ _ _ _ _ _; world = λ w v done all gives b. b }
 
 pub returns-in-Err-clause-step : goal.returns-in-Err-clause-step
-returns-in-Err-clause-step g c = step-unbegun _ _ (record { same = g.met.C.Chunks.kept_same; chain = g.met.C.Chunks.kept_chain; later = g.met.C.Chunks.came_later; earlier = g.met.C.Chunks.came_earlier }) _ _ _ _ _ _ _ _ [] _ _ c.in-Some.part _ refl c.in-Some.ensures.items c.loop-part.invariant.step c.in-Err.ensures.step
+returns-in-Err-clause-step g c = step-unbegun _ _ (record { same = g.met.C.Chunks.kept_same; chain = g.met.C.Chunks.kept_chain; later = g.met.C.Chunks.came_later; earlier = g.met.C.Chunks.came_earlier }) _ _ _ _ _ _ _ _ _ [] _ _ c.in-Some.part _ refl c.in-Some.ensures.items c.loop-part.invariant.step c.in-Err.ensures.step
 
 pub returns-in-Err-clause-fault : goal.returns-in-Err-clause-fault
-returns-in-Err-clause-fault g c = fault-then _ _ (record { same = g.met.C.Chunks.kept_same; chain = g.met.C.Chunks.kept_chain; later = g.met.C.Chunks.came_later; earlier = g.met.C.Chunks.came_earlier }) _ _ _ _ _ _ [] _ c.loop-part.invariant.step.kept c.in-Err.ensures.step.kept (λ m h. absurd h) c.in-Err.ensures.fault
+returns-in-Err-clause-fault g c = begin-fault _ _ (record { same = g.met.C.Chunks.kept_same; chain = g.met.C.Chunks.kept_chain; later = g.met.C.Chunks.came_later; earlier = g.met.C.Chunks.came_earlier }) _ _ _ _ _ _ _ _ _ _ c.in-Some.part _ _ c.in-Some.ensures.items c.loop-part.invariant.step c.in-Err.ensures.step.kept c.in-Err.ensures.fault
 
 pub returns-in-Err-clause-sound : goal.returns-in-Err-clause-sound
 returns-in-Err-clause-sound g c = λ w gives. c.in-Err.ensures.sound w (λ to layer number bytes h. gives to layer number bytes (g.met.C.Chunks.came_later _ _ _ _ _ _ _ c.loop-part.invariant.step.kept h))
@@ -38,7 +38,7 @@ returns-in-Err-clause-sound g c = λ w gives. c.in-Err.ensures.sound w (λ to la
 pub returns-then-is_err-clause-step : goal.returns-then-is_err-clause-step
 returns-then-is_err-clause-step g c =
     let e : is_err c.put_back.result ≡ true = cc in
-    step-unbegun _ _ (record { same = g.met.C.Chunks.kept_same; chain = g.met.C.Chunks.kept_chain; later = g.met.C.Chunks.came_later; earlier = g.met.C.Chunks.came_earlier }) _ _ _ _ _ _ _ _ (option_to_list c.in-Ok.first) _ _ c.in-Some.part _ (on-err _ _ e c.put_back.ensures.refused) c.in-Some.ensures.items c.loop-part.invariant.step c.in-Ok.ensures.step
+    step-unbegun _ _ (record { same = g.met.C.Chunks.kept_same; chain = g.met.C.Chunks.kept_chain; later = g.met.C.Chunks.came_later; earlier = g.met.C.Chunks.came_earlier }) _ _ _ _ _ _ _ _ _ (option_to_list c.in-Ok.first) _ _ c.in-Some.part _ (on-err _ _ e c.put_back.ensures.refused) c.in-Some.ensures.items c.loop-part.invariant.step c.in-Ok.ensures.step
 
 pub returns-clause-step : goal.returns-clause-step
-returns-clause-step g c = step-all _ _ (record { same = g.met.C.Chunks.kept_same; chain = g.met.C.Chunks.kept_chain; later = g.met.C.Chunks.came_later; earlier = g.met.C.Chunks.came_earlier }) _ _ _ _ _ _ _ _ (λ x. to_begin c.args.table x c.loop-part.ready.items) c.loop-part.invariant.step
+returns-clause-step g c = step-all _ _ (record { same = g.met.C.Chunks.kept_same; chain = g.met.C.Chunks.kept_chain; later = g.met.C.Chunks.came_later; earlier = g.met.C.Chunks.came_earlier }) _ _ _ _ _ _ _ _ _ (λ x. to_begin c.args.table x c.loop-part.ready.items) c.loop-part.invariant.step

@@ -12,7 +12,7 @@ use Rattle.layer_merge.proofs.start.begin_all.Given as goal
 abbrev pub invariant-loop-part : goal.invariant-loop-part
 invariant-loop-part g l = record {
   heap : IsHeap stand_cmp (heap_items l.cursors);
-  step : IsStep g.C.Chunks.kept g.C.Chunks.came g.C.Chunks.loads l.table l.initial.chunks l.chunks (heap_items l.initial.cursors) (heap_items l.cursors) (λ x. to_load l.table x (heap_items l.initial.cursors) + to_begin l.table x l.initial.ready.items) (λ x. to_load l.table x (heap_items l.cursors) + to_begin l.table x l.ready.items);
+  step : IsStep g.C.Chunks.kept g.C.Chunks.came g.C.Chunks.loads l.table l.kinds l.initial.chunks l.chunks (heap_items l.initial.cursors) (heap_items l.cursors) (λ x. to_load l.table x (heap_items l.initial.cursors) + to_begin l.table x l.initial.ready.items) (λ x. to_load l.table x (heap_items l.cursors) + to_begin l.table x l.ready.items);
   world : (w : World) (v : Wanted) (done : Option (List ℕ)) (all : List Entry) → Gives g.C.Chunks.came l.table l.kinds w l.initial.chunks → BegunSoFar w v done all l.initial.ready.items (heap_items l.initial.cursors)
       → BegunSoFar w v done all l.ready.items (heap_items l.cursors);
 }

@@ -5,7 +5,7 @@ use Rattle.layer_merge.specs.FromLast.{from_last}
 use Rattle.layer_merge.specs.Parts.{is_introduced}
 use Rattle.layer_merge.specs.Steps.{times}
 use Rattle.layer_merge.specs.Within.{AreAsked, keys_within, wanted_loads}
-use Rattle.layer_merge.proofs.WithinLaws.{made-within, may-asked, rows-made_within}
+use Rattle.layer_merge.proofs.WithinLaws.{made-within, may-asked, new-wanted, rows-made_within}
 use Rattle.layer_merge.proofs.row_merge.RowMerge.within.Goals as goal
 
 pub returns-in-Ok-over-clause-rows : goal.returns-in-Ok-over-clause-rows
@@ -22,3 +22,9 @@ returns-in-Ok-over-clause-loads c =
     let new = c.in-Ok-over.ensures in
     let asked = subst (λ (v : Wanted). AreAsked v (from_last is_introduced c.args.parts.now) c.in-Ok-over.walk.waiting) c.in-Ok.ensures new.asked in
     λ x. may-asked (keys_within c.args.lo.now c.args.hi.now c.args.t) c.args.parts.now c.in-Ok-over.walk x asked new.stands new.begun ∙ ap (λ (n : ℕ). times x (wanted_loads n (keys_within c.args.lo.now c.args.hi.now c.args.t) c.args.parts.now) + times x (wanted_loads n (keys_within c.args.lo.now c.args.hi.now c.args.t) c.args.parts.now)) new.table
+
+pub returns-in-Ok-over-clause-asks : goal.returns-in-Ok-over-clause-asks
+returns-in-Ok-over-clause-asks c =
+    let new = c.in-Ok-over.ensures in
+    let asked = subst (λ (v : Wanted). AreAsked v (from_last is_introduced c.args.parts.now) c.in-Ok-over.walk.waiting) c.in-Ok.ensures new.asked in
+    λ layer number h. new-wanted (keys_within c.args.lo.now c.args.hi.now c.args.t) c.args.parts.now c.in-Ok-over.walk asked new.stands new.begun layer number h

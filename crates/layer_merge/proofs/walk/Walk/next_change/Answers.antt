@@ -8,7 +8,7 @@ use Rattle.layer_merge.specs.Loads.{Gives}
 use Rattle.layer_merge.specs.Rows.{Gave}
 use Rattle.layer_merge.specs.Walks.{MergesOver}
 use Rattle.layer_merge.specs.Changes.{changes_left, changes_of}
-use Rattle.layer_merge.proofs.StepLaws.{fault-then, if-err, if-put, of-held-then, step-then}
+use Rattle.layer_merge.proofs.StepLaws.{fault-after, if-err, if-put, of-held-after, step-then}
 use Rattle.layer_merge.proofs.walk.Walk.next_change.Goals as goal
 
 pub returns-clause-changes : goal.returns-clause-changes
@@ -19,20 +19,20 @@ returns-clause-changes g c = λ w all gives m.
 
 pub returns-clause-step : goal.returns-clause-step
 returns-clause-step g c =
-    let two = rw c.in-Ok.ensures.table at c.change.ensures.step in
-    step-then _ _ (record { same = g.met.C.Chunks.kept_same; chain = g.met.C.Chunks.kept_chain; later = g.met.C.Chunks.came_later; earlier = g.met.C.Chunks.came_earlier }) _ _ _ _ _ _ _ _ _ _ _ c.in-Ok.ensures.step two
+    let two = rw (c.in-Ok.ensures.table, c.in-Ok.ensures.kinds) at c.change.ensures.step in
+    step-then _ _ (record { same = g.met.C.Chunks.kept_same; chain = g.met.C.Chunks.kept_chain; later = g.met.C.Chunks.came_later; earlier = g.met.C.Chunks.came_earlier }) _ _ _ _ _ _ _ _ _ _ _ _ c.in-Ok.ensures.step two
 
 pub returns-clause-fault : goal.returns-clause-fault
 returns-clause-fault g c =
     let two = rw (c.in-Ok.ensures.table, c.in-Ok.ensures.kinds) at c.change.ensures.fault in
-    let kept = (rw c.in-Ok.ensures.table at c.change.ensures.step).kept in
-    if-err _ _ (record { same = g.met.C.Chunks.kept_same; chain = g.met.C.Chunks.kept_chain; later = g.met.C.Chunks.came_later; earlier = g.met.C.Chunks.came_earlier }) c.args.self.now.table c.change.result _ _ (λ f h. fault-then _ _ (record { same = g.met.C.Chunks.kept_same; chain = g.met.C.Chunks.kept_chain; later = g.met.C.Chunks.came_later; earlier = g.met.C.Chunks.came_earlier }) _ _ _ _ _ _ _ _ c.in-Ok.ensures.step.kept kept c.in-Ok.ensures.step.held h) two
+    let kept = (rw (c.in-Ok.ensures.table, c.in-Ok.ensures.kinds) at c.change.ensures.step).kept in
+    if-err c.change.result _ _ (λ f h. fault-after _ _ (record { same = g.met.C.Chunks.kept_same; chain = g.met.C.Chunks.kept_chain; later = g.met.C.Chunks.came_later; earlier = g.met.C.Chunks.came_earlier }) _ _ _ _ _ _ _ _ _ _ _ c.in-Ok.ensures.step kept h) two
 
 pub returns-clause-put : goal.returns-clause-put
 returns-clause-put g c =
-    let two = rw c.in-Ok.ensures.table at c.change.ensures.put in
-    let kept = (rw c.in-Ok.ensures.table at c.change.ensures.step).kept in
-    if-put _ _ (record { same = g.met.C.Chunks.kept_same; chain = g.met.C.Chunks.kept_chain; later = g.met.C.Chunks.came_later; earlier = g.met.C.Chunks.came_earlier }) c.args.self.now.table c.change.result _ _ (λ e h. of-held-then _ _ (record { same = g.met.C.Chunks.kept_same; chain = g.met.C.Chunks.kept_chain; later = g.met.C.Chunks.came_later; earlier = g.met.C.Chunks.came_earlier }) _ _ _ _ _ _ _ c.in-Ok.ensures.step.kept kept c.in-Ok.ensures.step.held h) two
+    let two = rw (c.in-Ok.ensures.table, c.in-Ok.ensures.kinds) at c.change.ensures.put in
+    let kept = (rw (c.in-Ok.ensures.table, c.in-Ok.ensures.kinds) at c.change.ensures.step).kept in
+    if-put c.change.result _ _ (λ e h. of-held-after _ _ (record { same = g.met.C.Chunks.kept_same; chain = g.met.C.Chunks.kept_chain; later = g.met.C.Chunks.came_later; earlier = g.met.C.Chunks.came_earlier }) _ _ _ _ _ _ _ _ _ _ _ c.in-Ok.ensures.step kept h) two
 
 pub returns-clause-sound : goal.returns-clause-sound
 returns-clause-sound g c = λ w all gives m.

@@ -12,13 +12,13 @@ returns-clause-world g c =
     walked w all _ _ _ _ _ _ _ _ _ _ c.next_row.result _ b (λ ranges apart at. c.next_row.ensures.world w all (subst (λ (k : List Kind). Gives g.C.Chunks.came c.self.inside.table k w c.args.chunks.now) (sym c.as_slice.ensures.value) gives) apart ranges at) m)
 
 pub returns-clause-step : goal.returns-clause-step
-returns-clause-step g c = rw (← c.self.view_is) c.next_row.ensures.step
+returns-clause-step g c = rw (← c.self.view_is) (rw c.as_slice.ensures.value at c.next_row.ensures.step)
 
 pub returns-clause-fault : goal.returns-clause-fault
 returns-clause-fault g c = rw (← c.self.view_is) (rw c.as_slice.ensures.value at c.next_row.ensures.fault)
 
 pub returns-clause-put : goal.returns-clause-put
-returns-clause-put g c = rw (← c.self.view_is) c.next_row.ensures.put
+returns-clause-put g c = rw (← c.self.view_is) (rw c.as_slice.ensures.value at c.next_row.ensures.put)
 
 pub returns-clause-sound : goal.returns-clause-sound
 returns-clause-sound g c =

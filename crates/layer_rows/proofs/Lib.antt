@@ -1,4 +1,0 @@
-pub mod Renewed
-pub mod Exported
-pub mod Bounds
-pub mod Stored

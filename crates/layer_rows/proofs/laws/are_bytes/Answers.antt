@@ -1,6 +1,0 @@
-use Rattle.std.proofs.Common.{arith}
-use Rattle.row_codec.proofs.ValueLaws.{bytes_by_index}
-use Rattle.layer_rows.proofs.laws.are_bytes.Goals as goal
-
-pub returns : goal.returns
-returns c = bytes_by_index c.args.bytes.now (λ i. omega (arith, c.type_inv.bytes i))
