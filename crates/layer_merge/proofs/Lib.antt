@@ -18,3 +18,5 @@ pub mod EntryLaws
 pub mod WithinLaws
 pub mod JoinLaws
 pub mod CallLaws
+pub mod OrderLaws
+pub mod BehindLaws

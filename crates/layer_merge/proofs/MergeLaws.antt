@@ -35,6 +35,10 @@ module _ (w : World) (all : List Entry) (table : ℕ) (kinds : List Kind) (v : W
   pub walked-sound : {X F : Type 0} (waiting : List Waiting) (stands : List Stand) (rs : List Entry) (done : Option Bytes) (begun : Bool) (r : Result X F) (P : F → Type 0) → begun ≡ true → (HasRanges rs all → IsApart bytes_cmp (facts_of all) → AreAt w v done all stands → IfErr r P) → MergesOver w all (walk_state table kinds v waiting stands rs done begun) → IfErr r P
   walked-sound waiting stands rs done begun r P e step m = let work : IsWalking w all (walk_state table kinds v waiting stands rs done begun) = subst (λ (b : Bool). IsAtWork b w all (walk_state table kinds v waiting stands rs done begun)) e m.work in step work.ranges m.apart work.at
 
+  -- what is said of a walk that has begun
+  pub walked-any : (waiting : List Waiting) (stands : List Stand) (rs : List Entry) (done : Option Bytes) (begun : Bool) (P : Type 0) → begun ≡ true → (HasRanges rs all → IsApart bytes_cmp (facts_of all) → AreAt w v done all stands → P) → MergesOver w all (walk_state table kinds v waiting stands rs done begun) → P
+  walked-any waiting stands rs done begun P e step m = let work : IsWalking w all (walk_state table kinds v waiting stands rs done begun) = subst (λ (b : Bool). IsAtWork b w all (walk_state table kinds v waiting stands rs done begun)) e m.work in step work.ranges m.apart work.at
+
 -- ---- loads that may still be made
 
 pub begun-may : (m : WalkState) (x : Load) → m.begun ≡ true → to_load m.table x m.stands ≤ may_load x m

@@ -114,14 +114,14 @@ after-later None a b p l = refl
 after-later (Some d) a b p l = ap is_lt (nat_list_cmp_total.trans d a b (lt-Less (bytes_cmp d a) p) (lt-Less (bytes_cmp a b) l))
 
 -- an entry that counts after a key counts before it
-still-counts : (v : Wanted) (done : Option Bytes) (key : Bytes) (d : Entry) → is_after done key ≡ true → counts v (Some key) d ≡ true → counts v done d ≡ true
+pub still-counts : (v : Wanted) (done : Option Bytes) (key : Bytes) (d : Entry) → is_after done key ≡ true → counts v (Some key) d ≡ true → counts v done d ≡ true
 unfolding counts
 still-counts v done key d p c = by (and-parts (not (is_range d)) (is_lt (bytes_cmp key (key_of d)) && is_wanted v (key_of d) (date_of d)) c)
   where
     by : ((not (is_range d) ≡ true) × ((is_lt (bytes_cmp key (key_of d)) && is_wanted v (key_of d) (date_of d)) ≡ true)) → (not (is_range d) && (is_after done (key_of d) && is_wanted v (key_of d) (date_of d))) ≡ true
     by h = let w = and-parts (is_lt (bytes_cmp key (key_of d))) (is_wanted v (key_of d) (date_of d)) h.1 in ap₂ (λ (x y : Bool). x && y) h.0 (ap₂ (λ (x y : Bool). x && y) (after-later done key (key_of d) p w.0) w.1)
 
-counts-after : (v : Wanted) (done : Option Bytes) (e : Entry) → counts v done e ≡ true → is_after done (key_of e) ≡ true
+pub counts-after : (v : Wanted) (done : Option Bytes) (e : Entry) → counts v done e ≡ true → is_after done (key_of e) ≡ true
 unfolding counts
 counts-after v done e c = (and-parts (is_after done (key_of e)) (is_wanted v (key_of e) (date_of e)) (and-parts (not (is_range e)) (is_after done (key_of e) && is_wanted v (key_of e) (date_of e)) c).1).0
 

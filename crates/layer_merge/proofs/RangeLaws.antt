@@ -213,6 +213,10 @@ broken number n false h = (same n number (and-parts (n == number + 1) true h).0,
     same : (a b : ℕ) → (a == b + 1) ≡ true → a ≡ b + 1
     same a b e = grind (arith, nat_tests)
 
+pub not-broken : (number n : ℕ) (g : Bool) → ((n == number + 1) && not g) ≡ false → n ≡ number + 1 → g ≡ true
+not-broken number n true h e = refl
+not-broken number n false h e = absurd (true≢false (sym (grind (arith, nat_tests)) ∙ h))
+
 -- chunks in order are never named
 pub unbroken : (all left chunk old now : List Entry) (after : Option Numbered) (number offset : ℕ) → IsEntryStart chunk offset → is_before number (first_of (left_at chunk offset)) after ≡ false → are_ordered None all ≡ true → TakenSoFar all (left ++ chunk) after old now → ⊥
 unbroken all left chunk old now None number offset start b o t = true≢false b
@@ -233,6 +237,15 @@ last-left chunk (x ∷ y ∷ left) before b e n h = absurd (omega (arith, n))
 
 pub last-at : (chunk : List Entry) (offset : ℕ) (b : Option Entry) → IsEntryStart chunk offset → length (left_at chunk offset) ≤ 1 → goes_on (first_of (left_at chunk offset)) b ≡ false → goes_on (last_of chunk) b ≡ false
 last-at chunk offset b start n h = last-left chunk (left_at chunk offset) start.1.before b (start.1.whole ∙ ap (λ (l : List Entry). start.1.before ++ l) (sym (left-is chunk start.0 offset start.1))) n h
+
+-- the same where it goes on
+goes-left : (chunk left before : List Entry) (b : Option Entry) → chunk ≡ before ++ left → length left ≤ 1 → 1 ≤ length left → goes_on (first_of left) b ≡ true → goes_on (last_of chunk) b ≡ true
+goes-left chunk [] before b e n m h = absurd (omega (arith, m))
+goes-left chunk (x ∷ []) before b e n m h = ap (λ (l : List Entry). goes_on (last_of l) b) e ∙ ap (λ (o : Option Entry). goes_on o b) (last-push before x) ∙ h
+goes-left chunk (x ∷ y ∷ left) before b e n m h = absurd (omega (arith, n))
+
+pub goes-at : (chunk : List Entry) (offset : ℕ) (b : Option Entry) → IsEntryStart chunk offset → length (left_at chunk offset) ≤ 1 → 1 ≤ length (left_at chunk offset) → goes_on (first_of (left_at chunk offset)) b ≡ true → goes_on (last_of chunk) b ≡ true
+goes-at chunk offset b start n m h = goes-left chunk (left_at chunk offset) start.1.before b (start.1.whole ∙ ap (λ (l : List Entry). start.1.before ++ l) (sym (left-is chunk start.0 offset start.1))) n m h
 
 pub one-left : (l : List Entry) → l ≡ take 1 l → length l ≤ 1
 one-left [] e = omega arith

@@ -67,7 +67,7 @@ first-points (Entry.Put ka ta va) (Entry.Range lo hi at) p q h = absurd (true≢
 first-points (Entry.Del ka ta) (Entry.Range lo hi at) p q h = absurd (true≢false q)
 first-points (Entry.Range lo hi at) b p q h = absurd (true≢false p)
 
-first-upto : (a b : Entry) → is_range a ≡ false → is_range b ≡ false → is_lt (entry_cmp (Some b) (Some a)) ≡ false → is_gt (point_cmp a b) ≡ false
+pub first-upto : (a b : Entry) → is_range a ≡ false → is_range b ≡ false → is_lt (entry_cmp (Some b) (Some a)) ≡ false → is_gt (point_cmp a b) ≡ false
 first-upto a b p q h = turned-lt (point_cmp a b) (ap is_lt (sym (points-total.antisymm b a)) ∙ first-points a b p q h)
 
 -- ---- lists in order
@@ -80,7 +80,7 @@ first-before : (e d : Entry) (es : List Entry) → are_ordered None (e ∷ es) �
 first-before e d es o h = members.has-AllByRecursion (λ x. comes_before e x ≡ true) d es (entries-ordered.throughout e es o) h
 
 -- a put or deletion of a list in order isn't before the first entry, which is one too
-in-order : (e d : Entry) (es : List Entry) → are_ordered None (e ∷ es) ≡ true → Has d (e ∷ es) → is_range d ≡ false → (is_range e ≡ false) × (is_gt (point_cmp e d) ≡ false)
+pub in-order : (e d : Entry) (es : List Entry) → are_ordered None (e ∷ es) ≡ true → Has d (e ∷ es) → is_range d ≡ false → (is_range e ≡ false) × (is_gt (point_cmp e d) ≡ false)
 in-order e d es o (inl i) p = (subst (λ (x : Entry). is_range x ≡ false) i p, subst (λ (x : Entry). is_gt (point_cmp e x) ≡ false) (sym i) (itself e))
   where
     itself : (x : Entry) → is_gt (point_cmp x x) ≡ false
@@ -159,14 +159,14 @@ finds-none w v done all h0 h1 e l a = record { none = by h0 l a; again = subst (
     by (s ∷ h) n b = absurd (omega (arith, n))
 
 -- what is to come begins with the entry at which the stand is
-begun : (w : World) (s : Stand) (e : Entry) → first_of s.left ≡ Some e → (rest : List Entry) × (coming w s ≡ e ∷ rest)
+pub begun : (w : World) (s : Stand) (e : Entry) → first_of s.left ≡ Some e → (rest : List Entry) × (coming w s ≡ e ∷ rest)
 begun w s e f = by s.left f _
   where
     by : (l : List Entry) → first_of l ≡ Some e → (more : List Entry) → (rest : List Entry) × (l ++ more ≡ e ∷ rest)
     by [] g more = absurd (cc)
     by (x ∷ xs) g more = (xs ++ more, (let i : x ≡ e = cc in ap (λ (y : Entry). y ∷ (xs ++ more)) i))
 
-live-first : (l : List Entry) → 1 ≤ length l → (e : Entry) × (first_of l ≡ Some e)
+pub live-first : (l : List Entry) → 1 ≤ length l → (e : Entry) × (first_of l ≡ Some e)
 live-first [] h = absurd (omega arith)
 live-first (x ∷ xs) h = (x, refl)
 

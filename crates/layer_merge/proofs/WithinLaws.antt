@@ -1,24 +1,23 @@
 -- A merge over the chunks that may hold a key that is asked for shows of these keys what all chunks show.
-use Rattle.std.proofs.Common.{◌≡◌, ◌≤◌, ◌<◌, ◌+◌, ℕ, zero, suc, Bool, true, false, cond, ◌&&◌, sym, refl, ap, ap₂, ◌∙◌, subst, List, [], ◌∷◌, ◌++◌, filter, map, slice_get, Option, Some, None, inl, inr, Ordering, Less, Equal, Greater, is_eq, is_lt, true≢false, sum_by, arith}
+use Rattle.std.proofs.Common.{◌≡◌, ◌≤◌, ◌<◌, ◌+◌, ℕ, zero, suc, Bool, true, false, cond, ◌&&◌, sym, refl, ap, ap₂, ◌∙◌, subst, List, [], ◌∷◌, ◌++◌, filter, map, slice_get, Option, Some, None, inl, inr, Ordering, Less, Equal, Greater, is_eq, is_lt, true≢false, arith}
 use Rattle.std.specs.List.{range_with_len}
 use Rattle.std.specs.Prelude.{◌==◌}
 use Rattle.std.proofs.lemmas.Bool.Decides.{nat_tests}
-use Rattle.std.specs.List.Sorted.{IsStrictlySortedBy}
 use Rattle.std.specs.Cmp.{IsTotalOrder}
 use Rattle.std.specs.Ordering.{is_le, on}
 use Rattle.std.proofs.lemmas.Cmp.{on_total, tied_itself}
 use Rattle.std.proofs.lemmas.List.Sums.{sum_by-cons}
 use Rattle.std.proofs.lemmas.List.Kept.{IsStrictlySortedBy-filter}
-use Rattle.mvcc_keys.specs.Times.{Time, time_le}
+use Rattle.mvcc_keys.specs.Times.{Time}
 use Rattle.mvcc_keys.specs.Entries.{end_of, key_of}
 use Rattle.mvcc_keys.specs.declared.entries.Entry.{Entry}
 use Rattle.list_laws.specs.Members.{Has, AllIn}
 use Rattle.list_laws.proofs.Bools.{and-both, and-parts}
 use Rattle.list_laws.proofs.Filters.{filter-all, filter-map}
 use Rattle.list_laws.proofs.Members as members
-use Rattle.fact_model.specs.Facts.{Fact, IsApart, IsKeyOrder, date, newest, touches, value, version_of}
+use Rattle.fact_model.specs.Facts.{Fact, IsApart, IsKeyOrder, newest, touches, value, version_of}
 use Rattle.fact_model.specs.Newest.{IsNewest}
-use Rattle.fact_model.specs.Scans.{Item, IsScan, scan, version}
+use Rattle.fact_model.specs.Scans.{Item, scan}
 use Rattle.fact_model.proofs.Newest as newests
 use Rattle.fact_model.proofs.Orders as orders
 use Rattle.fact_model.proofs.Scanned as scanned
@@ -34,7 +33,6 @@ use Rattle.layer_merge.specs.FromLast.{from_last}
 use Rattle.layer_merge.specs.Loads.{Load, World, load}
 use Rattle.layer_merge.specs.Nexts.{to_come}
 use Rattle.layer_merge.specs.Parts.{AreProper, AreWaiting, IsCountedChunk, counted_entries, entries_of_part, entries_of_parts, is_introduced, merge_rows}
-use Rattle.layer_merge.specs.Ranges.{AreDated}
 use Rattle.layer_merge.specs.Rows.{is_asked, put_of, rows_left}
 use Rattle.layer_merge.specs.Stands.{Stand, entries_in, is_below}
 use Rattle.layer_merge.specs.Starts.{AreInOrder, part_entries, parts_entries}

@@ -15,3 +15,4 @@ pub mod Parts
 pub mod Changes
 pub mod Within
 pub mod Joins
+pub mod Orders

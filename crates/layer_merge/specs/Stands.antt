@@ -9,7 +9,7 @@ use Rattle.list_laws.specs.Members.{Has}
 use Rattle.mvcc_keys.specs.Entries.{key_of}
 use Rattle.mvcc_keys.specs.declared.entries.Entry.{Entry}
 use Rattle.chunk_file.specs.Entries.{is_range, date_of, are_ordered, comes_before}
-use Rattle.chunk_file.specs.Held.{IsEntryStart}
+use Rattle.chunk_file.specs.Held.{IsEntryStart, left_at}
 use Rattle.layer_merge.specs.declared.wanted.Wanted.{Wanted}
 use Rattle.layer_merge.specs.Loads.{World}
 
@@ -24,10 +24,12 @@ pub record Stand : Type 0 where
 abbrev pub stand : ℕ → ℕ → List Entry → List Entry → List ℕ → Stand
 stand layer number entries left numbers = record { layer = layer; number = number; entries = entries; left = left; numbers = numbers }
 
--- an offset of a chunk that is held
+-- the offset of an entry of a chunk that is held
 pub record IsAt (entries : List Entry) (offset : ℕ) : Type 0 where
   pub start : IsEntryStart entries offset
+  pub live : 1 ≤ length (left_at entries offset)
   pub most : length entries ≤ 256
+  pub ordered : are_ordered None entries ≡ true
 
 -- the entries of some chunks of a layer
 abbrev pub entries_in : World → ℕ → List ℕ → List Entry

@@ -1,5 +1,5 @@
 //! The newest put or deletion of each key, one after the other.
-ghost use Rattle.std.specs.Prelude.{◌≡◌, Some, List, IfOk, IfErr, IfSome};
+ghost use Rattle.std.specs.Prelude.{◌≡◌, Some, List, IfOk, IfErr, IfSome, OnOk};
 ghost use Rattle.std.specs.BinaryHeap.{IsHeap, heap_items};
 ghost use Rattle.mvcc_keys.specs.declared.entries.Entry.{Entry};
 ghost use Rattle.mvcc_keys.specs.Entries.{key_of};
@@ -10,6 +10,7 @@ ghost use Rattle.layer_merge.specs.Changes.{changes_left};
 ghost use Rattle.layer_merge.specs.Loads.{Gives, IsOthers, World};
 ghost use Rattle.layer_merge.specs.Rows.{Gave};
 ghost use Rattle.layer_merge.specs.Stands.{AreAt, first_of, stand_cmp};
+ghost use Rattle.layer_merge.specs.Orders.{Freely, IsOrder, IsUpTo, PointsBy};
 ghost use Rattle.layer_merge.specs.Steps.{IsMergeFault, IsOfHeld, IsStep, MayLoad, to_load};
 ghost use Rattle.version_store.specs.Tables.{bytes_cmp};
 ghost use Rattle.version_store.specs.Lists.{facts_of};
@@ -77,9 +78,11 @@ pub(crate) fn next_change<C: Chunks>(
     requires heap { IsHeap stand_cmp (heap_items cursors.old) }
     ensures step { IsStep C.kept C.came C.loads table kinds.now chunks.old chunks.new (heap_items cursors.old) (heap_items cursors.new) (λ x. to_load table x (heap_items cursors.old)) (λ x. to_load table x (heap_items cursors.new)) }
     ensures fault { IfErr result (IsMergeFault (C.came chunks.old chunks.new) table kinds.now (MayLoad (λ x. to_load table x (heap_items cursors.old)) table) (heap_items cursors.old)) }
+    ensures order { OnOk result (IsOrder C.came C.loads table kinds.now chunks.old chunks.new (PointsBy Freely (heap_items cursors.old) (heap_items cursors.new))) }
     ensures put { IfOk result (λ r. IfSome r (IsOfHeld (C.came chunks.old chunks.new) table kinds.now (MayLoad (λ x. to_load table x (heap_items cursors.old)) table) (heap_items cursors.old))) }
     ensures heap { IsHeap stand_cmp (heap_items cursors.new) }
     ensures world { (w : World) (all : List Entry) → Gives C.came table kinds.now w chunks.old → IsApart bytes_cmp (facts_of all) → AreAt w wanted.now done.old all (heap_items cursors.old) → IfOk result (λ r. Gave r (changes_left wanted.now done.old all) (changes_left wanted.now done.new all) × AreAt w wanted.now done.new all (heap_items cursors.new)) }
+    ensures behind { (w : World) (all : List Entry) → Gives C.came table kinds.now w chunks.old → AreAt w wanted.now done.old all (heap_items cursors.old) → IfOk result (λ r. IfSome r (λ e. IsOrder C.came C.loads table kinds.now chunks.old chunks.new (PointsBy (IsUpTo (key_of e)) (heap_items cursors.old) (heap_items cursors.new)))) }
     ensures sound { (w : World) (all : List Entry) → Gives C.came table kinds.now w chunks.old → AreAt w wanted.now done.old all (heap_items cursors.old) → IfErr result IsOthers }
 {
     let top = match find(cursors, chunks, table, kinds, wanted, done) {

@@ -1,5 +1,5 @@
 //! A part of a merge, at one of its entries.
-ghost use Rattle.std.specs.Prelude.{◌≡◌, ◌+◌, ◌*◌, ◌<◌, ◌≤◌, length, drop, take, option_map, IfOk, IfErr, IfSome, MatchOption, None, true, false, [], ◌∷◌, ◌==◌, ◌&&◌, not, zero};
+ghost use Rattle.std.specs.Prelude.{◌≡◌, ◌+◌, ◌*◌, ◌<◌, ◌≤◌, length, drop, take, option_map, IfOk, IfErr, IfSome, OnOk, MatchOption, None, true, false, [], ◌∷◌, ◌==◌, ◌&&◌, not, zero};
 ghost use Rattle.std.proofs.Common.{refl};
 ghost use Rattle.std.specs.Cmp.{partial_equiv_from_equiv, po};
 ghost use Rattle.layer_merge.specs.StandOrder.{stands_total, stands_equiv};
@@ -9,6 +9,7 @@ ghost use Rattle.chunk_file.specs.Entries.{seen, are_ordered};
 ghost use Rattle.chunk_file.specs.Held.{IsEntryStart, left_at};
 ghost use Rattle.layer_merge.specs.Loads.{Gives, IsOthers, World};
 ghost use Rattle.layer_merge.specs.Stands.{IsLast, Loaded, Moves, coming, date_in, entry_cmp, first_of, goes_on, key_in, rank_of, room, stand, stand_cmp};
+ghost use Rattle.layer_merge.specs.Orders.{EndsAt, IsOrder, PointsBy};
 ghost use Rattle.layer_merge.specs.Steps.{IsMergeFault, IsStep, MayLoad, stands_of, to_load};
 
 use crate::loading::load_chunk;
@@ -129,7 +130,9 @@ pub(crate) fn breaks(
 impl Cursor {
     /// The cursor at the first entry of a chunk.
     pub(crate) fn new(layer: usize, number: u32, chunk: HeldChunk, numbers: VecDeque<u32>) -> Cursor
-        requires { length chunk ≤ 256 }
+        requires some { 1 ≤ length chunk }
+        requires most { length chunk ≤ 256 }
+        requires ordered { are_ordered None chunk ≡ true }
         ensures whole { result ≡ stand layer number chunk chunk numbers.items }
         ensures layer { result.layer ≡ layer }
         ensures number { result.number ≡ number }
@@ -175,7 +178,8 @@ impl Cursor {
 impl Cursor {
     /// The cursor at an entry of its chunk.
     fn at(self, offset: usize) -> Cursor
-        requires { IsEntryStart self.entries offset }
+        requires start { IsEntryStart self.entries offset }
+        requires live { 1 ≤ length (left_at self.entries offset) }
         ensures { result ≡ stand self.layer self.number self.entries (left_at self.entries offset) self.numbers }
     {
         let mut moved = self;
@@ -195,6 +199,7 @@ impl Cursor {
         ensures fault { IfErr result (IsMergeFault (C.came chunks.old chunks.new) table kinds.now (MayLoad (λ x. to_load table x (self ∷ [])) table) (self ∷ [])) }
         ensures world { (w : World) → Gives C.came table kinds.now w chunks.old → IfOk result (Loaded w self) }
         ensures sound { (w : World) → Gives C.came table kinds.now w chunks.old → IsLast w self → IfErr result IsOthers }
+        ensures order { OnOk result (IsOrder C.came C.loads table kinds.now chunks.old chunks.new (PointsBy (EndsAt self) (self ∷ []) (stands_of result))) }
         ensures shorter { IfOk result (λ r. IfSome r (λ m. room m ≤ 258 * length self.numbers)) }
     {
         let Cursor {
@@ -232,6 +237,7 @@ impl Cursor {
         ensures fault { IfErr result (IsMergeFault (C.came chunks.old chunks.new) table kinds.now (MayLoad (λ x. to_load table x (self ∷ [])) table) (self ∷ [])) }
         ensures world { (w : World) → Gives C.came table kinds.now w chunks.old → IfOk result (Moves w self) }
         ensures sound { (w : World) → Gives C.came table kinds.now w chunks.old → are_ordered None (coming w self) ≡ true → IfErr result IsOthers }
+        ensures order { OnOk result (IsOrder C.came C.loads table kinds.now chunks.old chunks.new (PointsBy (EndsAt self) (self ∷ []) (stands_of result))) }
         ensures shorter { IfOk result (λ r. IfSome r (λ m. room m < room self)) }
     {
         match self.after() {

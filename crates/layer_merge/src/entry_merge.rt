@@ -1,13 +1,17 @@
 //! The entries of the layer without history that joins the layers of an interval.
-ghost use Rattle.std.specs.Prelude.{◌≡◌, ℕ, true, false, [], Some, IfOk, IfErr, IfSome, OnErr, OnOk, List};
+ghost use Rattle.std.specs.Prelude.{◌≡◌, ℕ, true, false, [], ◌++◌, Some, IfOk, IfErr, IfSome, OnErr, OnOk, List};
 ghost use Rattle.std.specs.List.{list_any};
+ghost use Rattle.mvcc_keys.specs.Entries.{key_of};
 ghost use Rattle.mvcc_keys.specs.declared.entries.Entry.{Entry};
 ghost use Rattle.chunk_file.specs.Entries.{is_range};
 ghost use Rattle.layer_merge.specs.Changes.{entries_left, first_date, merge_entries, ranges_held};
+ghost use Rattle.layer_merge.specs.declared.ranges.Waiting.{Waiting};
 ghost use Rattle.layer_merge.specs.Loads.{Gives, IsOthers, World};
-ghost use Rattle.layer_merge.specs.Parts.{AreProper, IsCountedChunk, counted_entries, is_introduced};
+ghost use Rattle.layer_merge.specs.Parts.{AreProper, AreWaiting, IsCountedChunk, counted_entries, is_introduced};
 ghost use Rattle.layer_merge.specs.Rows.{Gave};
+ghost use Rattle.layer_merge.specs.Orders.{Freely, HasLoaded, IsOrder, IsUpTo, TableChunk, WalksBy};
 ghost use Rattle.layer_merge.specs.Steps.{IsMergeFault, IsOfHeld, IsStep, to_load};
+ghost use Rattle.layer_merge.specs.FromLast.{from_last};
 ghost use Rattle.layer_merge.specs.Walks.{IsToLoad, MergesOver, may_load};
 
 use crate::parts::{Part, any_introduced};
@@ -69,6 +73,8 @@ impl EntryMerge {
         ensures kinds { IfOk result (λ m. m.walk.kinds ≡ kinds.now) }
         ensures failed { IfOk result (λ m. m.failed ≡ false) }
         ensures held { IfOk result (λ m. m.walk.stands ≡ []) }
+        ensures waits { IfOk result (λ m. AreWaiting (from_last is_introduced parts.now) m.walk.waiting) }
+        ensures made { IfOk result (λ m. HasLoaded m.walk.waiting m.walk []) }
         ensures asks { IfOk result (λ m. (layer number : ℕ) → IsToLoad m.walk layer number → IsCountedChunk parts.now layer number) }
         ensures entries { (w : World) → AreProper w parts.now → IfOk result (λ m. MergesOver w (counted_entries w parts.now) m.walk × (entries_left (counted_entries w parts.now) m ≡ merge_entries w parts.now from to)) }
     {
@@ -110,8 +116,11 @@ impl EntryMerge {
     ) -> Result<Option<Entry>, MergeFault<C::Fault>>
         requires { self.old.walk.wanted.after ≡ Some from }
         ensures step { IsStep C.kept C.came C.loads self.old.walk.table self.old.walk.kinds chunks.old chunks.new self.old.walk.stands self.new.walk.stands (λ x. may_load x self.old.walk) (λ x. to_load self.old.walk.table x self.new.walk.stands) }
+        ensures order { self.old.listed ≡ false → OnOk result (IsOrder C.came C.loads self.old.walk.table self.old.walk.kinds chunks.old chunks.new (λ read. WalksBy Freely self.old.walk read self.new.walk.stands)) }
+        ensures made { (waiting : List Waiting) (before : List TableChunk) → HasLoaded waiting self.old.walk before → OnOk result (IsOrder C.came C.loads self.old.walk.table self.old.walk.kinds chunks.old chunks.new (λ more. HasLoaded waiting self.new.walk (before ++ more))) }
         ensures put { IfOk result (λ r. IfSome r (λ e. is_range e ≡ false → IsOfHeld (C.came chunks.old chunks.new) self.old.walk.table self.old.walk.kinds (IsToLoad self.old.walk) self.old.walk.stands e)) }
         ensures fault { IfErr result (IsMergeFault (C.came chunks.old chunks.new) self.old.walk.table self.old.walk.kinds (IsToLoad self.old.walk) self.old.walk.stands) }
+        ensures behind { (w : World) (all : List Entry) → Gives C.came self.old.walk.table self.old.walk.kinds w chunks.old → MergesOver w all self.old.walk → IfOk result (λ r. IfSome r (λ e. is_range e ≡ false → IsOrder C.came C.loads self.old.walk.table self.old.walk.kinds chunks.old chunks.new (λ read. WalksBy (IsUpTo (key_of e)) self.old.walk read self.new.walk.stands))) }
         ensures sound { (w : World) (all : List Entry) → Gives C.came self.old.walk.table self.old.walk.kinds w chunks.old → MergesOver w all self.old.walk → IfErr result IsOthers }
         ensures table { self.new.walk.table ≡ self.old.walk.table }
         ensures kinds { self.new.walk.kinds ≡ self.old.walk.kinds }
@@ -138,8 +147,11 @@ impl EntryMerge {
         chunks: &mut C,
     ) -> Result<Option<Entry>, MergeFault<C::Fault>>
         ensures step { IsStep C.kept C.came C.loads self.old.walk.table self.old.walk.kinds chunks.old chunks.new self.old.walk.stands self.new.walk.stands (λ x. may_load x self.old.walk) (λ x. to_load self.old.walk.table x self.new.walk.stands) }
+        ensures order { self.old.listed ≡ false → OnOk result (IsOrder C.came C.loads self.old.walk.table self.old.walk.kinds chunks.old chunks.new (λ read. WalksBy Freely self.old.walk read self.new.walk.stands)) }
+        ensures made { (waiting : List Waiting) (before : List TableChunk) → HasLoaded waiting self.old.walk before → OnOk result (IsOrder C.came C.loads self.old.walk.table self.old.walk.kinds chunks.old chunks.new (λ more. HasLoaded waiting self.new.walk (before ++ more))) }
         ensures put { IfOk result (λ r. IfSome r (λ e. is_range e ≡ false → IsOfHeld (C.came chunks.old chunks.new) self.old.walk.table self.old.walk.kinds (IsToLoad self.old.walk) self.old.walk.stands e)) }
         ensures fault { IfErr result (IsMergeFault (C.came chunks.old chunks.new) self.old.walk.table self.old.walk.kinds (IsToLoad self.old.walk) self.old.walk.stands) }
+        ensures behind { (w : World) (all : List Entry) → Gives C.came self.old.walk.table self.old.walk.kinds w chunks.old → MergesOver w all self.old.walk → IfOk result (λ r. IfSome r (λ e. is_range e ≡ false → IsOrder C.came C.loads self.old.walk.table self.old.walk.kinds chunks.old chunks.new (λ read. WalksBy (IsUpTo (key_of e)) self.old.walk read self.new.walk.stands))) }
         ensures sound { (w : World) (all : List Entry) → Gives C.came self.old.walk.table self.old.walk.kinds w chunks.old → MergesOver w all self.old.walk → IfErr result IsOthers }
         ensures table { self.new.walk.table ≡ self.old.walk.table }
         ensures kinds { self.new.walk.kinds ≡ self.old.walk.kinds }
@@ -157,8 +169,11 @@ impl EntryMerge {
     pub fn next<C: Chunks>(&mut self, chunks: &mut C) -> Result<Option<Entry>, MergeFault<C::Fault>>
         requires { self.old.failed ≡ false }
         ensures step { IsStep C.kept C.came C.loads self.old.walk.table self.old.walk.kinds chunks.old chunks.new self.old.walk.stands self.new.walk.stands (λ x. may_load x self.old.walk) (λ x. to_load self.old.walk.table x self.new.walk.stands) }
+        ensures order { self.old.listed ≡ false → OnOk result (IsOrder C.came C.loads self.old.walk.table self.old.walk.kinds chunks.old chunks.new (λ read. WalksBy Freely self.old.walk read self.new.walk.stands)) }
+        ensures made { (waiting : List Waiting) (before : List TableChunk) → HasLoaded waiting self.old.walk before → OnOk result (IsOrder C.came C.loads self.old.walk.table self.old.walk.kinds chunks.old chunks.new (λ more. HasLoaded waiting self.new.walk (before ++ more))) }
         ensures put { IfOk result (λ r. IfSome r (λ e. is_range e ≡ false → IsOfHeld (C.came chunks.old chunks.new) self.old.walk.table self.old.walk.kinds (IsToLoad self.old.walk) self.old.walk.stands e)) }
         ensures fault { IfErr result (IsMergeFault (C.came chunks.old chunks.new) self.old.walk.table self.old.walk.kinds (IsToLoad self.old.walk) self.old.walk.stands) }
+        ensures behind { (w : World) (all : List Entry) → Gives C.came self.old.walk.table self.old.walk.kinds w chunks.old → MergesOver w all self.old.walk → IfOk result (λ r. IfSome r (λ e. is_range e ≡ false → IsOrder C.came C.loads self.old.walk.table self.old.walk.kinds chunks.old chunks.new (λ read. WalksBy (IsUpTo (key_of e)) self.old.walk read self.new.walk.stands))) }
         ensures sound { (w : World) (all : List Entry) → Gives C.came self.old.walk.table self.old.walk.kinds w chunks.old → MergesOver w all self.old.walk → IfErr result IsOthers }
         ensures table { self.new.walk.table ≡ self.old.walk.table }
         ensures kinds { self.new.walk.kinds ≡ self.old.walk.kinds }

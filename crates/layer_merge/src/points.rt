@@ -4,6 +4,7 @@ ghost use Rattle.std.specs.BinaryHeap.{IsHeap, KeepsHeap, heap_items};
 ghost use Rattle.mvcc_keys.specs.declared.entries.Entry.{Entry};
 ghost use Rattle.layer_merge.specs.Loads.{Gives, IsOthers, World};
 ghost use Rattle.layer_merge.specs.Stands.{AreAt, Finds, counts_first, first_of, room, stand_cmp};
+ghost use Rattle.layer_merge.specs.Orders.{Freely, IsBehind, IsOrder, PointsBy};
 ghost use Rattle.layer_merge.specs.Steps.{IsMergeFault, IsStep, MayLoad, stands_of, to_load};
 
 use crate::cursor::Cursor;
@@ -51,8 +52,10 @@ pub(crate) fn find<C: Chunks>(
     ensures step { IsStep C.kept C.came C.loads table kinds.now chunks.old chunks.new (heap_items cursors.old) (stands_of result ++ heap_items cursors.new) (λ x. to_load table x (heap_items cursors.old)) (λ x. to_load table x (stands_of result ++ heap_items cursors.new)) }
     ensures fault { IfErr result (IsMergeFault (C.came chunks.old chunks.new) table kinds.now (MayLoad (λ x. to_load table x (heap_items cursors.old)) table) (heap_items cursors.old)) }
     ensures heap { IsHeap stand_cmp (heap_items cursors.new) }
+    ensures order { OnOk result (IsOrder C.came C.loads table kinds.now chunks.old chunks.new (PointsBy Freely (heap_items cursors.old) (stands_of result ++ heap_items cursors.new))) }
     ensures room { IfOk result (λ r. sum_by room (option_to_list r ++ heap_items cursors.new) ≤ sum_by room (heap_items cursors.old)) }
     ensures world { (w : World) (all : List Entry) → Gives C.came table kinds.now w chunks.old → AreAt w wanted.now done.now all (heap_items cursors.old) → IfOk result (λ r. Finds w wanted.now done.now all r (heap_items cursors.new)) }
+    ensures behind { (w : World) (all : List Entry) → Gives C.came table kinds.now w chunks.old → AreAt w wanted.now done.now all (heap_items cursors.old) → OnOk result (IsOrder C.came C.loads table kinds.now chunks.old chunks.new (PointsBy (IsBehind wanted.now done.now all) (heap_items cursors.old) (stands_of result ++ heap_items cursors.new))) }
     ensures sound { (w : World) (all : List Entry) → Gives C.came table kinds.now w chunks.old → AreAt w wanted.now done.now all (heap_items cursors.old) → IfErr result IsOthers }
 {
     while let Some(top) = cursors.pop() {

@@ -6,6 +6,7 @@ ghost use Rattle.mvcc_keys.specs.declared.entries.Entry.{Entry};
 ghost use Rattle.chunk_file.specs.Entries.{are_ordered, is_range, seen};
 ghost use Rattle.chunk_file.specs.Held.{IsEntryStart, left_at};
 ghost use Rattle.layer_merge.specs.Loads.{Gives, IsOthers, Load, World};
+ghost use Rattle.layer_merge.specs.Orders.{Backwards, IsOrder};
 ghost use Rattle.layer_merge.specs.Steps.{IsMergeFault, IsStep, MayLoad, loads_of, times};
 ghost use Rattle.layer_merge.specs.Stands.{entries_in, first_of};
 ghost use Rattle.layer_merge.specs.Ranges.{AddsAll, IsUpward, TakesRanges, begins_with_range, is_before};
@@ -41,6 +42,7 @@ fn add_ranges(ranges: &mut RangeSet, chunk: &HeldChunk) -> Result<usize, Memory>
     requires { AllByRecursion IsUpward chunk.now }
     ensures start { IfOk result (IsEntryStart chunk.now) }
     ensures last { IfOk result (λ o. length (left_at chunk.now o) ≤ 1) }
+    ensures some { IfOk result (λ o. 1 ≤ length chunk.now → 1 ≤ length (left_at chunk.now o)) }
     ensures kept { OnOk result (AddsAll chunk.now ranges.old ranges.new) }
 {
     let mut last = chunk.first();
@@ -112,6 +114,7 @@ pub(crate) fn take_ranges<C: Chunks>(
     ensures step { IsStep C.kept C.came C.loads table kinds.now chunks.old chunks.new [] [] (λ x. times x (loads_of table part.old.layer part.old.numbers.items)) (λ x. 0) }
     ensures fewer { OnOk result ((x : Load) → times x (loads_of table part.new.layer part.new.numbers.items) ≤ times x (loads_of table part.old.layer part.old.numbers.items)) }
     ensures fault { IfErr result (IsMergeFault (C.came chunks.old chunks.new) table kinds.now (MayLoad (λ x. times x (loads_of table part.old.layer part.old.numbers.items)) table) []) }
+    ensures order { OnOk result (IsOrder C.came C.loads table kinds.now chunks.old chunks.new (λ read. Backwards part.old.layer part.old.numbers.items None read part.new.numbers.items)) }
     ensures layer { part.new.layer ≡ part.old.layer }
     ensures world { (w : World) → Gives C.came table kinds.now w chunks.old → are_ordered None (entries_in w part.old.layer part.old.numbers.items) ≡ true
         → OnOk result (TakesRanges (entries_in w part.old.layer part.old.numbers.items) (entries_in w part.old.layer part.new.numbers.items) ranges.old ranges.new) }

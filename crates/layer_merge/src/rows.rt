@@ -1,5 +1,5 @@
 //! The rows of a merge, one after the other.
-ghost use Rattle.std.specs.Prelude.{◌≡◌, ◌≤◌, Some, None, List, [], ◌∷◌, ◌++◌, IfOk, IfErr, IfSome, option_map, option_to_list, sum_by};
+ghost use Rattle.std.specs.Prelude.{◌≡◌, ◌≤◌, Some, None, List, [], ◌∷◌, ◌++◌, IfOk, IfErr, IfSome, OnOk, option_map, option_to_list, sum_by};
 ghost use Rattle.std.specs.BinaryHeap.{IsHeap, heap_items};
 ghost use Rattle.mvcc_keys.specs.declared.entries.Entry.{Entry};
 ghost use Rattle.fact_model.specs.Facts.{IsApart};
@@ -8,6 +8,7 @@ ghost use Rattle.mvcc_keys.specs.Entries.{key_of};
 ghost use Rattle.chunk_file.specs.Entries.{seen};
 ghost use Rattle.layer_merge.specs.Loads.{Gives, IsOthers, World};
 ghost use Rattle.layer_merge.specs.Stands.{AreAt, Finds, counts_first, first_of, room, stand_cmp};
+ghost use Rattle.layer_merge.specs.Orders.{Freely, IsOrder, IsUpTo, PointsBy};
 ghost use Rattle.layer_merge.specs.Steps.{IsMergeFault, IsOfHeld, IsStep, MayLoad, to_load};
 ghost use Rattle.version_store.specs.Tables.{bytes_cmp};
 ghost use Rattle.version_store.specs.Lists.{facts_of};
@@ -82,6 +83,7 @@ fn decide(
     done: &mut Option<Blob>,
 ) -> Result<Option<Entry>, Memory>
     ensures decided { IfOk result (λ r. (e : Entry) → first_of top.now.left ≡ Some e → (done.new ≡ Some (key_of e)) × IsDecided ranges.now upto e r) }
+    ensures same { IfOk result (λ r. IfSome r (λ e. first_of top.now.left ≡ Some e)) }
     ensures among { IfOk result (λ r. IfSome r (λ e. Has e top.now.entries)) }
 {
     let Some(entry) = top.entry() else {
@@ -108,9 +110,11 @@ pub(crate) fn next_row<C: Chunks>(
     requires from_start { wanted.now.after ≡ None }
     ensures step { IsStep C.kept C.came C.loads table kinds.now chunks.old chunks.new (heap_items cursors.old) (heap_items cursors.new) (λ x. to_load table x (heap_items cursors.old)) (λ x. to_load table x (heap_items cursors.new)) }
     ensures fault { IfErr result (IsMergeFault (C.came chunks.old chunks.new) table kinds.now (MayLoad (λ x. to_load table x (heap_items cursors.old)) table) (heap_items cursors.old)) }
+    ensures order { OnOk result (IsOrder C.came C.loads table kinds.now chunks.old chunks.new (PointsBy Freely (heap_items cursors.old) (heap_items cursors.new))) }
     ensures put { IfOk result (λ r. IfSome r (IsOfHeld (C.came chunks.old chunks.new) table kinds.now (MayLoad (λ x. to_load table x (heap_items cursors.old)) table) (heap_items cursors.old))) }
     ensures heap { IsHeap stand_cmp (heap_items cursors.new) }
     ensures world { (w : World) (all : List Entry) → Gives C.came table kinds.now w chunks.old → IsApart bytes_cmp (facts_of all) → HasRanges ranges.now all → AreAt w wanted.now done.old all (heap_items cursors.old) → IfOk result (λ r. Gave r (rows_left wanted.now done.old all) (rows_left wanted.now done.new all) × AreAt w wanted.now done.new all (heap_items cursors.new)) }
+    ensures behind { (w : World) (all : List Entry) → Gives C.came table kinds.now w chunks.old → IsApart bytes_cmp (facts_of all) → HasRanges ranges.now all → AreAt w wanted.now done.old all (heap_items cursors.old) → IfOk result (λ r. IfSome r (λ e. IsOrder C.came C.loads table kinds.now chunks.old chunks.new (PointsBy (IsUpTo (key_of e)) (heap_items cursors.old) (heap_items cursors.new)))) }
     ensures sound { (w : World) (all : List Entry) → Gives C.came table kinds.now w chunks.old → IsApart bytes_cmp (facts_of all) → HasRanges ranges.now all → AreAt w wanted.now done.old all (heap_items cursors.old) → IfErr result IsOthers }
 {
     loop {

@@ -1,8 +1,9 @@
 //! The start of a merge.
-ghost use Rattle.std.specs.Prelude.{◌≡◌, ◌≤◌, ◌+◌, true, None, [], ℕ, IfOk, IfErr, OnOk, List, Option};
+ghost use Rattle.std.specs.Prelude.{◌≡◌, ◌≤◌, ◌+◌, true, None, [], ◌∷◌, ◌++◌, map, ℕ, IfOk, IfErr, OnOk, List, Option};
 ghost use Rattle.std.specs.BinaryHeap.{IsHeap, heap_items};
 ghost use Rattle.mvcc_keys.specs.declared.entries.Entry.{Entry};
 ghost use Rattle.layer_merge.specs.Loads.{Gives, IsOthers, Load, World};
+ghost use Rattle.layer_merge.specs.Orders.{IsOrder, IsUnheld, MovesBy, RangesBy, StartsBy, before_first, places_of};
 ghost use Rattle.layer_merge.specs.Steps.{IsMergeFault, IsStep, MayLoad, loads_of, stands_of, times, to_begin, to_load};
 ghost use Rattle.layer_merge.specs.Stands.{AreAt, stand_cmp};
 ghost use Rattle.layer_merge.specs.Ranges.{AreDated, HasRanges};
@@ -30,6 +31,7 @@ pub(crate) fn all_ranges<C: Chunks>(
     requires { ready.old.items ≡ [] }
     ensures step { IsStep C.kept C.came C.loads table kinds.now chunks.old chunks.new [] [] (λ x. to_begin table x waiting.old.items) (λ x. 0) }
     ensures fewer { OnOk result ((x : Load) → to_begin table x ready.new.items ≤ to_begin table x waiting.old.items) }
+    ensures order { OnOk result (IsOrder C.came C.loads table kinds.now chunks.old chunks.new (λ read. RangesBy waiting.old.items read ready.new.items)) }
     ensures fault { IfErr result (IsMergeFault (C.came chunks.old chunks.new) table kinds.now (MayLoad (λ x. to_begin table x waiting.old.items) table) []) }
     ensures sound { (w : World) → Gives C.came table kinds.now w chunks.old → AreInOrder w waiting.old.items → IfErr result IsOthers }
     ensures world { (w : World) → Gives C.came table kinds.now w chunks.old → AreInOrder w waiting.old.items
@@ -56,6 +58,7 @@ fn begun<C: Chunks>(
     kinds: &[Kind],
 ) -> Result<Option<Cursor>, MergeFault<C::Fault>>
     ensures step { IsStep C.kept C.came C.loads table kinds.now chunks.old chunks.new [] (stands_of result) (λ x. times x (loads_of table part.layer part.numbers.items)) (λ x. to_load table x (stands_of result)) }
+    ensures order { OnOk result (IsOrder C.came C.loads table kinds.now chunks.old chunks.new (λ read. MovesBy IsUnheld read (before_first part ∷ []) (places_of (stands_of result)))) }
     ensures fault { IfErr result (IsMergeFault (C.came chunks.old chunks.new) table kinds.now (MayLoad (λ x. times x (loads_of table part.layer part.numbers.items)) table) []) }
     ensures sound { (w : World) → Gives C.came table kinds.now w chunks.old → IfErr result IsOthers }
     ensures world { (w : World) → Gives C.came table kinds.now w chunks.old → IfOk result (Begins w part) }
@@ -80,6 +83,7 @@ pub(crate) fn begin_all<C: Chunks>(
 ) -> Result<(), MergeFault<C::Fault>>
     requires { IsHeap stand_cmp (heap_items cursors.old) }
     ensures step { IsStep C.kept C.came C.loads table kinds.now chunks.old chunks.new (heap_items cursors.old) (heap_items cursors.new) (λ x. to_load table x (heap_items cursors.old) + to_begin table x ready.old.items) (λ x. to_load table x (heap_items cursors.new)) }
+    ensures order { OnOk result (IsOrder C.came C.loads table kinds.now chunks.old chunks.new (λ read. MovesBy IsUnheld read (map before_first ready.old.items ++ places_of (heap_items cursors.old)) (places_of (heap_items cursors.new)))) }
     ensures fault { IfErr result (IsMergeFault (C.came chunks.old chunks.new) table kinds.now (MayLoad (λ x. to_load table x (heap_items cursors.old) + to_begin table x ready.old.items) table) (heap_items cursors.old)) }
     ensures sound { (w : World) → Gives C.came table kinds.now w chunks.old → IfErr result IsOthers }
     ensures heap { IsHeap stand_cmp (heap_items cursors.new) }
@@ -110,6 +114,7 @@ pub(crate) fn start<C: Chunks>(
 ) -> Result<(), MergeFault<C::Fault>>
     requires { IsHeap stand_cmp (heap_items cursors.old) }
     ensures step { IsStep C.kept C.came C.loads table kinds.now chunks.old chunks.new (heap_items cursors.old) (heap_items cursors.new) (λ x. to_load table x (heap_items cursors.old) + (to_begin table x waiting.old.items + to_begin table x waiting.old.items)) (λ x. to_load table x (heap_items cursors.new)) }
+    ensures order { OnOk result (IsOrder C.came C.loads table kinds.now chunks.old chunks.new (λ read. StartsBy IsUnheld waiting.old.items read (places_of (heap_items cursors.old)) (places_of (heap_items cursors.new)))) }
     ensures fault { IfErr result (IsMergeFault (C.came chunks.old chunks.new) table kinds.now (MayLoad (λ x. to_load table x (heap_items cursors.old) + (to_begin table x waiting.old.items + to_begin table x waiting.old.items)) table) (heap_items cursors.old)) }
     ensures sound { (w : World) → Gives C.came table kinds.now w chunks.old → AreInOrder w waiting.old.items → IfErr result IsOthers }
     ensures heap { IsHeap stand_cmp (heap_items cursors.new) }

@@ -1,7 +1,10 @@
 //! The walk of a merge over the parts that count.
-ghost use Rattle.std.specs.Prelude.{◌≡◌, true, false, [], None, IfOk, IfErr, IfSome, OnOk, List};
+ghost use Rattle.std.specs.Prelude.{◌≡◌, true, false, [], ◌++◌, None, IfOk, IfErr, IfSome, OnOk, List};
+ghost use Rattle.mvcc_keys.specs.Entries.{key_of};
 ghost use Rattle.mvcc_keys.specs.declared.entries.Entry.{Entry};
+ghost use Rattle.layer_merge.specs.declared.ranges.Waiting.{Waiting};
 ghost use Rattle.layer_merge.specs.Loads.{Gives, IsOthers, World};
+ghost use Rattle.layer_merge.specs.Orders.{Freely, HasLoaded, IsUnheld, IsUpTo, IsOrder, PointsBy, TableChunk, WalksBy};
 ghost use Rattle.layer_merge.specs.Steps.{IsMergeFault, IsOfHeld, IsStep, MayLoad, to_load};
 ghost use Rattle.layer_merge.specs.Changes.{changes_of, ranges_held};
 ghost use Rattle.layer_merge.specs.FromLast.{from_last};
@@ -112,6 +115,7 @@ impl Walk {
     /// Loads what is needed before the first row, once.
     fn begin<C: Chunks>(&mut self, chunks: &mut C) -> Result<(), MergeFault<C::Fault>>
         ensures step { IsStep C.kept C.came C.loads self.old.table self.old.kinds chunks.old chunks.new self.old.stands self.new.stands (λ x. may_load x self.old) (λ x. to_load self.old.table x self.new.stands) }
+        ensures order { OnOk result (IsOrder C.came C.loads self.old.table self.old.kinds chunks.old chunks.new (λ read. WalksBy IsUnheld self.old read self.new.stands)) }
         ensures fault { IfErr result (IsMergeFault (C.came chunks.old chunks.new) self.old.table self.old.kinds (IsToLoad self.old) self.old.stands) }
         ensures sound { (w : World) (all : List Entry) → Gives C.came self.old.table self.old.kinds w chunks.old → MergesOver w all self.old → IfErr result IsOthers }
         ensures table { self.new.table ≡ self.old.table }
@@ -146,8 +150,10 @@ impl Walk {
         requires begun { self.old.begun ≡ true }
         requires from_start { self.old.wanted.after ≡ None }
         ensures step { IsStep C.kept C.came C.loads self.old.table self.old.kinds chunks.old chunks.new self.old.stands self.new.stands (λ x. to_load self.old.table x self.old.stands) (λ x. to_load self.old.table x self.new.stands) }
+        ensures order { OnOk result (IsOrder C.came C.loads self.old.table self.old.kinds chunks.old chunks.new (PointsBy Freely self.old.stands self.new.stands)) }
         ensures fault { IfErr result (IsMergeFault (C.came chunks.old chunks.new) self.old.table self.old.kinds (MayLoad (λ x. to_load self.old.table x self.old.stands) self.old.table) self.old.stands) }
         ensures put { IfOk result (λ r. IfSome r (IsOfHeld (C.came chunks.old chunks.new) self.old.table self.old.kinds (MayLoad (λ x. to_load self.old.table x self.old.stands) self.old.table) self.old.stands)) }
+        ensures behind { (w : World) (all : List Entry) → Gives C.came self.old.table self.old.kinds w chunks.old → MergesOver w all self.old → IfOk result (λ r. IfSome r (λ e. IsOrder C.came C.loads self.old.table self.old.kinds chunks.old chunks.new (PointsBy (IsUpTo (key_of e)) self.old.stands self.new.stands))) }
         ensures sound { (w : World) (all : List Entry) → Gives C.came self.old.table self.old.kinds w chunks.old → MergesOver w all self.old → IfErr result IsOthers }
         ensures begun { self.new.begun ≡ true }
         ensures table { self.new.table ≡ self.old.table }
@@ -174,8 +180,11 @@ impl Walk {
     ) -> Result<Option<Entry>, MergeFault<C::Fault>>
         requires { self.old.wanted.after ≡ None }
         ensures step { IsStep C.kept C.came C.loads self.old.table self.old.kinds chunks.old chunks.new self.old.stands self.new.stands (λ x. may_load x self.old) (λ x. to_load self.old.table x self.new.stands) }
+        ensures order { OnOk result (IsOrder C.came C.loads self.old.table self.old.kinds chunks.old chunks.new (λ read. WalksBy Freely self.old read self.new.stands)) }
+        ensures made { (waiting : List Waiting) (before : List TableChunk) → HasLoaded waiting self.old before → OnOk result (IsOrder C.came C.loads self.old.table self.old.kinds chunks.old chunks.new (λ more. HasLoaded waiting self.new (before ++ more))) }
         ensures fault { IfErr result (IsMergeFault (C.came chunks.old chunks.new) self.old.table self.old.kinds (IsToLoad self.old) self.old.stands) }
         ensures put { IfOk result (λ r. IfSome r (IsOfHeld (C.came chunks.old chunks.new) self.old.table self.old.kinds (IsToLoad self.old) self.old.stands)) }
+        ensures behind { (w : World) (all : List Entry) → Gives C.came self.old.table self.old.kinds w chunks.old → MergesOver w all self.old → IfOk result (λ r. IfSome r (λ e. IsOrder C.came C.loads self.old.table self.old.kinds chunks.old chunks.new (λ read. WalksBy (IsUpTo (key_of e)) self.old read self.new.stands))) }
         ensures sound { (w : World) (all : List Entry) → Gives C.came self.old.table self.old.kinds w chunks.old → MergesOver w all self.old → IfErr result IsOthers }
         ensures begun { OnOk result (self.new.begun ≡ true) }
         ensures table { self.new.table ≡ self.old.table }
@@ -194,8 +203,10 @@ impl Walk {
     fn change<C: Chunks>(&mut self, chunks: &mut C) -> Result<Option<Entry>, MergeFault<C::Fault>>
         requires { self.old.begun ≡ true }
         ensures step { IsStep C.kept C.came C.loads self.old.table self.old.kinds chunks.old chunks.new self.old.stands self.new.stands (λ x. to_load self.old.table x self.old.stands) (λ x. to_load self.old.table x self.new.stands) }
+        ensures order { OnOk result (IsOrder C.came C.loads self.old.table self.old.kinds chunks.old chunks.new (PointsBy Freely self.old.stands self.new.stands)) }
         ensures fault { IfErr result (IsMergeFault (C.came chunks.old chunks.new) self.old.table self.old.kinds (MayLoad (λ x. to_load self.old.table x self.old.stands) self.old.table) self.old.stands) }
         ensures put { IfOk result (λ r. IfSome r (IsOfHeld (C.came chunks.old chunks.new) self.old.table self.old.kinds (MayLoad (λ x. to_load self.old.table x self.old.stands) self.old.table) self.old.stands)) }
+        ensures behind { (w : World) (all : List Entry) → Gives C.came self.old.table self.old.kinds w chunks.old → MergesOver w all self.old → IfOk result (λ r. IfSome r (λ e. IsOrder C.came C.loads self.old.table self.old.kinds chunks.old chunks.new (PointsBy (IsUpTo (key_of e)) self.old.stands self.new.stands))) }
         ensures sound { (w : World) (all : List Entry) → Gives C.came self.old.table self.old.kinds w chunks.old → MergesOver w all self.old → IfErr result IsOthers }
         ensures begun { self.new.begun ≡ true }
         ensures table { self.new.table ≡ self.old.table }
@@ -220,8 +231,11 @@ impl Walk {
         chunks: &mut C,
     ) -> Result<Option<Entry>, MergeFault<C::Fault>>
         ensures step { IsStep C.kept C.came C.loads self.old.table self.old.kinds chunks.old chunks.new self.old.stands self.new.stands (λ x. may_load x self.old) (λ x. to_load self.old.table x self.new.stands) }
+        ensures order { OnOk result (IsOrder C.came C.loads self.old.table self.old.kinds chunks.old chunks.new (λ read. WalksBy Freely self.old read self.new.stands)) }
+        ensures made { (waiting : List Waiting) (before : List TableChunk) → HasLoaded waiting self.old before → OnOk result (IsOrder C.came C.loads self.old.table self.old.kinds chunks.old chunks.new (λ more. HasLoaded waiting self.new (before ++ more))) }
         ensures fault { IfErr result (IsMergeFault (C.came chunks.old chunks.new) self.old.table self.old.kinds (IsToLoad self.old) self.old.stands) }
         ensures put { IfOk result (λ r. IfSome r (IsOfHeld (C.came chunks.old chunks.new) self.old.table self.old.kinds (IsToLoad self.old) self.old.stands)) }
+        ensures behind { (w : World) (all : List Entry) → Gives C.came self.old.table self.old.kinds w chunks.old → MergesOver w all self.old → IfOk result (λ r. IfSome r (λ e. IsOrder C.came C.loads self.old.table self.old.kinds chunks.old chunks.new (λ read. WalksBy (IsUpTo (key_of e)) self.old read self.new.stands))) }
         ensures sound { (w : World) (all : List Entry) → Gives C.came self.old.table self.old.kinds w chunks.old → MergesOver w all self.old → IfErr result IsOthers }
         ensures begun { OnOk result (self.new.begun ≡ true) }
         ensures table { self.new.table ≡ self.old.table }

@@ -15,6 +15,7 @@ loop-entry-preserved c =
       at = c.in-Some.ensures.next.0;
       start = c.loop-entry.invariant.at;
       near = omega (arith, ap length same);
+      some = λ n. omega (arith, ap length same);
       upward = (subst (λ (l : List Entry). AllByRecursion IsUpward l) same c.loop-entry.invariant.upward).1;
       adds = λ new a. c.loop-entry.invariant.adds new (subst (λ (l : List Entry). AddsAll l c.loop-entry.ranges new) (sym same) (adds-then _ _ _ _ new (on-ok _ _ e c.add_range.ensures) a));
     }

@@ -11,6 +11,7 @@ invariant-loop-entry l = record {
   at : IsEntryStart l.chunk l.offset;
   start : IsEntryStart l.chunk l.last;
   near : length (left_at l.chunk l.last) ≤ length (left_at l.chunk l.offset) + 1;
+  some : 1 ≤ length l.chunk → 1 ≤ length (left_at l.chunk l.last);
   upward : AllByRecursion IsUpward (left_at l.chunk l.offset);
   adds : (new : List Entry) → AddsAll (left_at l.chunk l.offset) l.ranges new → AddsAll l.chunk l.initial.ranges new;
 }

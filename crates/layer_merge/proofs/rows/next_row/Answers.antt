@@ -6,6 +6,9 @@ use Rattle.list_laws.proofs.Results.{on-err, on-ok}
 use Rattle.layer_merge.proofs.RowSteps.{row-ended, row-given, row-passed}
 use Rattle.layer_merge.proofs.StepLaws.{fault-after, fault-over, step-dropped, step-fewer, step-moved, step-none, step-over, step-permuted, step-then}
 use Rattle.std.proofs.lemmas.List.Sorted.{IsPermutation-refl as itself}
+use Rattle.layer_merge.specs.Orders.{Freely}
+use Rattle.layer_merge.proofs.BehindLaws.{behind-found, behind-given, behind-later}
+use Rattle.layer_merge.proofs.OrderLaws.{order-after, order-none, order-over, order-reordered, order-weaker, walk-none}
 use Rattle.layer_merge.proofs.rows.next_row.Goals as goal
 
 pub returns-in-Ok-None-clause-world : goal.returns-in-Ok-None-clause-world
@@ -46,8 +49,18 @@ loop-top-preserved g c =
     let e : is_err c.put_back-in-loop-top.result ≡ false = cc in
     let kept = g.met.C.Chunks.kept_chain _ _ _ c.loop-top.invariant.step.kept c.in-Ok-Some.ensures.step.kept in
     let found-step = rw c.in-Ok-Some.field-0-is at c.in-Ok-Some.ensures.step in
+    let found-order = rw c.in-Ok-Some.field-0-is at c.in-Ok-Some.ensures.order in
     record {
+      order = order-over _ _ (record { same = g.met.C.Chunks.kept_same; chain = g.met.C.Chunks.kept_chain; later = g.met.C.Chunks.came_later; earlier = g.met.C.Chunks.came_earlier }) _ _ _ Freely _ _ _ _ _ _ _ (option_to_list c.in-Ok-moved.moved) c.in-Ok-Some.top (λ p i. tt) kept c.in-Ok-moved.ensures.step.kept (itself _) (on-ok _ _ e c.put_back-in-loop-top.ensures.items) (order-after _ _ (record { same = g.met.C.Chunks.kept_same; chain = g.met.C.Chunks.kept_chain; later = g.met.C.Chunks.came_later; earlier = g.met.C.Chunks.came_earlier }) _ _ _ _ _ _ _ _ _ _ c.loop-top.invariant.step.kept c.in-Ok-Some.ensures.step.kept c.loop-top.invariant.order found-order) c.in-Ok-moved.ensures.order;
       heap = c.put_back-in-loop-top.ensures.heap;
+      behind = λ w all gives apart ranges at.
+          let inv = c.loop-top.invariant.world w all gives apart ranges at in
+          let found = rw c.in-Ok-Some.field-0-is at c.in-Ok-Some.ensures.world in
+          let f = found w all (λ to layer number bytes h. gives to layer number bytes (g.met.C.Chunks.came_later _ _ _ _ _ _ _ c.loop-top.invariant.step.kept h)) inv.1 in
+          let left = rw c.in-Ok-Some.field-0-is at c.in-Ok-Some.ensures.behind in
+          let o = order-after _ _ (record { same = g.met.C.Chunks.kept_same; chain = g.met.C.Chunks.kept_chain; later = g.met.C.Chunks.came_later; earlier = g.met.C.Chunks.came_earlier }) _ _ _ _ _ _ _ _ _ _ c.loop-top.invariant.step.kept c.in-Ok-Some.ensures.step.kept (c.loop-top.invariant.behind w all gives apart ranges at) (left w all (λ to layer number bytes h. gives to layer number bytes (g.met.C.Chunks.came_later _ _ _ _ _ _ _ c.loop-top.invariant.step.kept h)) inv.1) in
+          let key = (c.in-Ok.ensures.decided f.entry f.first).0 in
+          order-over _ _ (record { same = g.met.C.Chunks.kept_same; chain = g.met.C.Chunks.kept_chain; later = g.met.C.Chunks.came_later; earlier = g.met.C.Chunks.came_earlier }) _ _ _ _ _ _ _ _ _ _ _ (option_to_list c.in-Ok-moved.moved) c.in-Ok-Some.top (λ p i. behind-later _ _ _ all f.entry p f.next.counted key (behind-found w _ _ all c.in-Ok-Some.top _ p f i)) kept c.in-Ok-moved.ensures.step.kept (itself _) (on-ok _ _ e c.put_back-in-loop-top.ensures.items) (order-weaker _ _ (record { same = g.met.C.Chunks.kept_same; chain = g.met.C.Chunks.kept_chain; later = g.met.C.Chunks.came_later; earlier = g.met.C.Chunks.came_earlier }) _ _ _ _ _ (λ p b. behind-later _ _ _ all f.entry p f.next.counted key b) _ _ _ _ o) c.in-Ok-moved.ensures.order;
       step = step-moved _ _ (record { same = g.met.C.Chunks.kept_same; chain = g.met.C.Chunks.kept_chain; later = g.met.C.Chunks.came_later; earlier = g.met.C.Chunks.came_earlier }) _ _ _ _ _ _ _ _ _ _ (option_to_list c.in-Ok-moved.moved) c.in-Ok-Some.top _ (itself _) (on-ok _ _ e c.put_back-in-loop-top.ensures.items) (step-then _ _ (record { same = g.met.C.Chunks.kept_same; chain = g.met.C.Chunks.kept_chain; later = g.met.C.Chunks.came_later; earlier = g.met.C.Chunks.came_earlier }) _ _ _ _ _ _ _ _ _ _ _ _ c.loop-top.invariant.step found-step) c.in-Ok-moved.ensures.step;
       world = λ w all gives apart ranges at.
           let inv = c.loop-top.invariant.world w all gives apart ranges at in
@@ -57,7 +70,7 @@ loop-top-preserved g c =
     }
 
 pub loop-top-init : goal.loop-top-init
-loop-top-init g c = record { heap = c.requires.heap; step = step-none _ _ (record { same = g.met.C.Chunks.kept_same; chain = g.met.C.Chunks.kept_chain; later = g.met.C.Chunks.came_later; earlier = g.met.C.Chunks.came_earlier }) _ _ _ _ _ _; world = λ w all gives apart ranges at. (refl, at) }
+loop-top-init g c = record { heap = c.requires.heap; step = step-none _ _ (record { same = g.met.C.Chunks.kept_same; chain = g.met.C.Chunks.kept_chain; later = g.met.C.Chunks.came_later; earlier = g.met.C.Chunks.came_earlier }) _ _ _ _ _ _; order = order-none _ _ (record { same = g.met.C.Chunks.kept_same; chain = g.met.C.Chunks.kept_chain; later = g.met.C.Chunks.came_later; earlier = g.met.C.Chunks.came_earlier }) _ _ _ _ _ (walk-none _ _); behind = λ w all gives apart ranges at. order-none _ _ (record { same = g.met.C.Chunks.kept_same; chain = g.met.C.Chunks.kept_chain; later = g.met.C.Chunks.came_later; earlier = g.met.C.Chunks.came_earlier }) _ _ _ _ _ (walk-none _ _); world = λ w all gives apart ranges at. (refl, at) }
 
 pub returns-in-Ok-None-clause-step : goal.returns-in-Ok-None-clause-step
 returns-in-Ok-None-clause-step g c =
@@ -109,3 +122,25 @@ returns-then-is_err-2-clause-step g c =
     let e : is_err c.put_back-in-loop-top.result ≡ true = cc in
     let found-step = rw c.in-Ok-Some.field-0-is at c.in-Ok-Some.ensures.step in
     step-dropped _ _ (record { same = g.met.C.Chunks.kept_same; chain = g.met.C.Chunks.kept_chain; later = g.met.C.Chunks.came_later; earlier = g.met.C.Chunks.came_earlier }) _ _ _ _ _ _ _ _ _ _ (option_to_list c.in-Ok-moved.moved) c.in-Ok-Some.top _ (on-err _ _ e c.put_back-in-loop-top.ensures.refused) (itself _) (step-then _ _ (record { same = g.met.C.Chunks.kept_same; chain = g.met.C.Chunks.kept_chain; later = g.met.C.Chunks.came_later; earlier = g.met.C.Chunks.came_earlier }) _ _ _ _ _ _ _ _ _ _ _ _ c.loop-top.invariant.step found-step) c.in-Ok-moved.ensures.step
+
+pub returns-in-Ok-None-clause-order : goal.returns-in-Ok-None-clause-order
+returns-in-Ok-None-clause-order g c =
+    let found = rw c.in-Ok-None.field-0-is at c.in-Ok-None.ensures.order in
+    order-after _ _ (record { same = g.met.C.Chunks.kept_same; chain = g.met.C.Chunks.kept_chain; later = g.met.C.Chunks.came_later; earlier = g.met.C.Chunks.came_earlier }) _ _ _ _ _ _ _ _ _ _ c.loop-top.invariant.step.kept c.in-Ok-None.ensures.step.kept c.loop-top.invariant.order found
+
+pub returns-in-Some-clause-order : goal.returns-in-Some-clause-order
+returns-in-Some-clause-order g c =
+    let e : is_err c.put_back.result ≡ false = cc in
+    let found = rw c.in-Ok-Some.field-0-is at c.in-Ok-Some.ensures.order in
+    order-reordered _ _ (record { same = g.met.C.Chunks.kept_same; chain = g.met.C.Chunks.kept_chain; later = g.met.C.Chunks.came_later; earlier = g.met.C.Chunks.came_earlier }) _ _ _ _ _ _ _ _ _ (on-ok _ _ e c.put_back.ensures.items) (order-after _ _ (record { same = g.met.C.Chunks.kept_same; chain = g.met.C.Chunks.kept_chain; later = g.met.C.Chunks.came_later; earlier = g.met.C.Chunks.came_earlier }) _ _ _ _ _ _ _ _ _ _ c.loop-top.invariant.step.kept c.in-Ok-Some.ensures.step.kept c.loop-top.invariant.order found)
+
+pub returns-in-Some-clause-behind : goal.returns-in-Some-clause-behind
+returns-in-Some-clause-behind g c = λ w all gives apart ranges at.
+    let e : is_err c.put_back.result ≡ false = cc in
+    let inv = c.loop-top.invariant.world w all gives apart ranges at in
+    let found = rw c.in-Ok-Some.field-0-is at c.in-Ok-Some.ensures.world in
+    let f = found w all (λ to layer number bytes h. gives to layer number bytes (g.met.C.Chunks.came_later _ _ _ _ _ _ _ c.loop-top.invariant.step.kept h)) inv.1 in
+    let left = rw c.in-Ok-Some.field-0-is at c.in-Ok-Some.ensures.behind in
+    let o = order-after _ _ (record { same = g.met.C.Chunks.kept_same; chain = g.met.C.Chunks.kept_chain; later = g.met.C.Chunks.came_later; earlier = g.met.C.Chunks.came_earlier }) _ _ _ _ _ _ _ _ _ _ c.loop-top.invariant.step.kept c.in-Ok-Some.ensures.step.kept (c.loop-top.invariant.behind w all gives apart ranges at) (left w all (λ to layer number bytes h. gives to layer number bytes (g.met.C.Chunks.came_later _ _ _ _ _ _ _ c.loop-top.invariant.step.kept h)) inv.1) in
+    let same = rw c.in-Some.is at c.in-Ok.ensures.same in
+    order-reordered _ _ (record { same = g.met.C.Chunks.kept_same; chain = g.met.C.Chunks.kept_chain; later = g.met.C.Chunks.came_later; earlier = g.met.C.Chunks.came_earlier }) _ _ _ _ _ _ _ _ _ (on-ok _ _ e c.put_back.ensures.items) (order-weaker _ _ (record { same = g.met.C.Chunks.kept_same; chain = g.met.C.Chunks.kept_chain; later = g.met.C.Chunks.came_later; earlier = g.met.C.Chunks.came_earlier }) _ _ _ _ _ (λ p b. behind-given w _ _ all c.in-Ok-Some.top _ c.in-Some.entry p f same b) _ _ _ _ o)

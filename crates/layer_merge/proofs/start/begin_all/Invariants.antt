@@ -1,6 +1,7 @@
 -- The parts that have begun.
-use Rattle.std.proofs.Common.{ℕ, ◌+◌, length, List, Option}
+use Rattle.std.proofs.Common.{ℕ, ◌+◌, ◌++◌, map, length, List, Option}
 use Rattle.layer_merge.specs.Steps.{IsStep, to_begin, to_load}
+use Rattle.layer_merge.specs.Orders.{IsOrder, IsUnheld, MovesBy, before_first, places_of}
 use Rattle.std.specs.BinaryHeap.{IsHeap, heap_items}
 use Rattle.mvcc_keys.specs.declared.entries.Entry.{Entry}
 use Rattle.layer_merge.specs.declared.wanted.Wanted.{Wanted}
@@ -13,6 +14,7 @@ abbrev pub invariant-loop-part : goal.invariant-loop-part
 invariant-loop-part g l = record {
   heap : IsHeap stand_cmp (heap_items l.cursors);
   step : IsStep g.C.Chunks.kept g.C.Chunks.came g.C.Chunks.loads l.table l.kinds l.initial.chunks l.chunks (heap_items l.initial.cursors) (heap_items l.cursors) (λ x. to_load l.table x (heap_items l.initial.cursors) + to_begin l.table x l.initial.ready.items) (λ x. to_load l.table x (heap_items l.cursors) + to_begin l.table x l.ready.items);
+  order : IsOrder g.C.Chunks.came g.C.Chunks.loads l.table l.kinds l.initial.chunks l.chunks (λ read. MovesBy IsUnheld read (map before_first l.initial.ready.items ++ places_of (heap_items l.initial.cursors)) (map before_first l.ready.items ++ places_of (heap_items l.cursors)));
   world : (w : World) (v : Wanted) (done : Option (List ℕ)) (all : List Entry) → Gives g.C.Chunks.came l.table l.kinds w l.initial.chunks → BegunSoFar w v done all l.initial.ready.items (heap_items l.initial.cursors)
       → BegunSoFar w v done all l.ready.items (heap_items l.cursors);
 }

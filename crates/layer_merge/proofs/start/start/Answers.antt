@@ -1,5 +1,5 @@
 -- The ranges of all parts, and then their first chunks.
-use Rattle.std.proofs.Common.{sym, subst, List, []}
+use Rattle.std.proofs.Common.{refl, sym, subst, List, []}
 use Rattle.std.specs.BinaryHeap.{heap_items}
 use Rattle.mvcc_keys.specs.declared.entries.Entry.{Entry}
 use Rattle.list_laws.proofs.Results.{ok-follows}
@@ -8,6 +8,7 @@ use Rattle.layer_merge.specs.Starts.{BegunSoFar, RangesSoFar, parts_entries}
 use Rattle.layer_merge.proofs.StandLaws.{counts-point}
 use Rattle.layer_merge.proofs.StartLaws.{all-begun, all-kept, all-ready}
 use Rattle.layer_merge.proofs.StepLaws.{if-err, start-fault, step-start, step-unstarted, unstarted-fault}
+use Rattle.layer_merge.proofs.OrderLaws.{order-then}
 use Rattle.layer_merge.proofs.start.start.Goals as goal
 
 pub returns-clause-world : goal.returns-clause-world
@@ -31,3 +32,6 @@ returns-clause-fault g c = if-err c.begin_all.result _ _ (λ f h. start-fault _ 
 
 pub returns-clause-sound : goal.returns-clause-sound
 returns-clause-sound g c = λ w gives o. c.begin_all.ensures.sound w (λ to layer number bytes h. gives to layer number bytes (g.met.C.Chunks.came_later _ _ _ _ _ _ _ c.in-Ok.ensures.step.kept h))
+
+pub returns-clause-order : goal.returns-clause-order
+returns-clause-order g c = ok-follows c.begin_all.result _ _ (λ o. order-then _ _ (record { same = g.met.C.Chunks.kept_same; chain = g.met.C.Chunks.kept_chain; later = g.met.C.Chunks.came_later; earlier = g.met.C.Chunks.came_earlier }) _ _ _ _ _ _ _ _ _ c.in-Ok.ensures.step.kept c.begin_all.ensures.step.kept (λ cs ds b m. record { ranges = cs; points = ds; ready = c.all_ranges.new.ready.items; whole = refl; backwards = b; forwards = m }) c.in-Ok.ensures.order o) c.begin_all.ensures.order

@@ -1,7 +1,9 @@
 -- The chunk after it.
-use Rattle.std.proofs.Common.{◌∙◌, sym, true≢false, []}
-use Rattle.layer_merge.proofs.RangeLaws.{broken, last-at, last-goes, one-left}
+use Rattle.std.proofs.Common.{refl, ◌∙◌, sym, true≢false, []}
+use Rattle.layer_merge.proofs.RangeLaws.{broken, goes-at, last-at, last-goes, not-broken, one-left}
+use Rattle.layer_merge.proofs.BehindLaws.{ends-at}
 use Rattle.layer_merge.proofs.StepLaws.{load-fault, may-next, order-fault, step-ended, step-failed, step-loaded}
+use Rattle.layer_merge.proofs.OrderLaws.{order-none, order-one, walk-ended, walk-loaded}
 use Rattle.layer_merge.proofs.cursor.Cursor.loaded.Goals as goal
 
 pub returns-in_default-clause-step : goal.returns-in_default-clause-step
@@ -29,3 +31,12 @@ returns-then-breaks-clause-sound g c = rw (← c.self.view_is) (λ w gives last.
 
 pub returns-clause-step : goal.returns-clause-step
 returns-clause-step g c = rw (← c.self.view_is) (step-loaded _ _ (record { same = g.met.C.Chunks.kept_same; chain = g.met.C.Chunks.kept_chain; later = g.met.C.Chunks.came_later; earlier = g.met.C.Chunks.came_earlier }) _ _ _ _ _ _ _ _ _ _ _ _ _ _ c.new.ensures.whole c.in-Some.ensures.items c.in-Ok.ensures.kept c.in-Ok.ensures.loaded c.in-Ok.ensures.told)
+
+pub returns-in_default-clause-order : goal.returns-in_default-clause-order
+returns-in_default-clause-order g c = rw (← c.self.view_is) (order-none _ _ (record { same = g.met.C.Chunks.kept_same; chain = g.met.C.Chunks.kept_chain; later = g.met.C.Chunks.came_later; earlier = g.met.C.Chunks.came_earlier }) _ _ _ _ _ (walk-ended _ _))
+
+pub returns-clause-order : goal.returns-clause-order
+returns-clause-order g c =
+    let one = rw (← c.self.view_is) at c.requires in
+    let on = not-broken _ _ _ (sym c.breaks.ensures ∙ c.if-breaks.false) in
+    rw (← c.self.view_is) (order-one _ _ (record { same = g.met.C.Chunks.kept_same; chain = g.met.C.Chunks.kept_chain; later = g.met.C.Chunks.came_later; earlier = g.met.C.Chunks.came_earlier }) _ _ _ _ _ _ _ _ _ c.in-Ok.ensures.loaded c.in-Ok.ensures.told (walk-loaded _ _ _ _ _ _ c.in-Some.ensures.items (λ e. goes-at _ _ _ c.self.invariant.start (one-left _ one) c.self.invariant.live (on e)) c.new.ensures.whole (refl, ends-at _ _ c.self.invariant.start (one-left _ one) c.self.invariant.live c.self.invariant.ordered)))

@@ -4,6 +4,7 @@ use Rattle.layer_merge.specs.declared.wanted.Wanted.{Wanted}
 use Rattle.layer_merge.proofs.EntryLaws.{merge-made}
 use Rattle.layer_merge.proofs.NewMerges.{made}
 use Rattle.layer_merge.proofs.WithinLaws.{asked-whole, new-wanted, wanted-counted}
+use Rattle.layer_merge.proofs.OrderLaws.{loaded-new}
 use Rattle.layer_merge.proofs.entry_merge.EntryMerge.new.Goals as goal
 
 pub returns-in-Ok-clause-entries : goal.returns-in-Ok-clause-entries
@@ -17,3 +18,9 @@ returns-in-Ok-clause-entries c =
 
 pub returns-in-Ok-clause-asks : goal.returns-in-Ok-clause-asks
 returns-in-Ok-clause-asks c = let new = c.in-Ok.ensures in λ layer number h. wanted-counted c.wanted_from-wanted.result c.args.parts.now layer number (new-wanted c.wanted_from-wanted.result c.args.parts.now c.in-Ok.walk new.asked new.stands new.begun layer number h)
+
+pub returns-in-Ok-clause-waits : goal.returns-in-Ok-clause-waits
+returns-in-Ok-clause-waits c = let v = c.wanted_from-wanted.ensures in asked-whole c.wanted_from-wanted.result _ _ v.lo v.hi c.in-Ok.ensures.asked
+
+pub returns-in-Ok-clause-made : goal.returns-in-Ok-clause-made
+returns-in-Ok-clause-made c = loaded-new c.in-Ok.walk c.in-Ok.ensures.begun c.in-Ok.ensures.stands

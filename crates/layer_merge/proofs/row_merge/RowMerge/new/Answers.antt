@@ -3,6 +3,7 @@ use Rattle.std.proofs.Common.{◌∙◌, ap, refl}
 use Rattle.layer_merge.specs.declared.wanted.Wanted.{Wanted}
 use Rattle.layer_merge.proofs.NewMerges.{made, rows-made}
 use Rattle.layer_merge.proofs.WithinLaws.{asked-whole, new-wanted, wanted-counted}
+use Rattle.layer_merge.proofs.OrderLaws.{loaded-new}
 use Rattle.layer_merge.proofs.row_merge.RowMerge.new.Goals as goal
 
 pub returns-in-Ok-clause-rows : goal.returns-in-Ok-clause-rows
@@ -16,3 +17,9 @@ returns-in-Ok-clause-rows c =
 
 pub returns-in-Ok-clause-asks : goal.returns-in-Ok-clause-asks
 returns-in-Ok-clause-asks c = let new = c.in-Ok.ensures in λ layer number h. wanted-counted c.wanted_from.result c.args.parts.now layer number (new-wanted c.wanted_from.result c.args.parts.now c.in-Ok.walk new.asked new.stands new.begun layer number h)
+
+pub returns-in-Ok-clause-waits : goal.returns-in-Ok-clause-waits
+returns-in-Ok-clause-waits c = let v = c.wanted_from.ensures in asked-whole c.wanted_from.result _ _ v.lo v.hi c.in-Ok.ensures.asked
+
+pub returns-in-Ok-clause-made : goal.returns-in-Ok-clause-made
+returns-in-Ok-clause-made c = loaded-new c.in-Ok.walk c.in-Ok.ensures.begun c.in-Ok.ensures.stands

@@ -2,7 +2,7 @@
 use Rattle.std.proofs.Common.{sym, subst, List}
 use Rattle.row_codec.specs.declared.rows.Kind.{Kind}
 use Rattle.layer_merge.specs.Loads.{Gives}
-use Rattle.layer_merge.proofs.MergeLaws.{walked, walked-sound}
+use Rattle.layer_merge.proofs.MergeLaws.{walked, walked-any, walked-sound}
 use Rattle.layer_merge.proofs.walk.Walk.change.Goals as goal
 
 pub returns-clause-world : goal.returns-clause-world
@@ -24,3 +24,12 @@ pub returns-clause-sound : goal.returns-clause-sound
 returns-clause-sound g c =
     let b = rw (← c.self.view_is) at c.requires in
     rw (← c.self.view_is) (λ w all gives m. walked-sound w all _ _ _ _ _ _ _ _ c.next_change.result _ b (λ ranges apart at. c.next_change.ensures.sound w all (subst (λ (k : List Kind). Gives g.C.Chunks.came c.self.inside.table k w c.args.chunks.now) (sym c.as_slice.ensures.value) gives) at) m)
+
+pub returns-clause-order : goal.returns-clause-order
+returns-clause-order g c = rw (← c.self.view_is) (rw c.as_slice.ensures.value at c.next_change.ensures.order)
+
+pub returns-clause-behind : goal.returns-clause-behind
+returns-clause-behind g c =
+    let b = rw (← c.self.view_is) at c.requires in
+    let left = rw c.as_slice.ensures.value at c.next_change.ensures.behind in
+    rw (← c.self.view_is) (λ w all gives m. walked-any w all _ _ _ _ _ _ _ _ _ b (λ ranges apart at. left w all gives at) m)
