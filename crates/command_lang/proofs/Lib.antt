@@ -1,1 +1,4 @@
 pub mod FormsExact
+pub mod TypedTokens
+pub mod TypedForms
+pub mod TypedCommands

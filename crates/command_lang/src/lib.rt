@@ -11,7 +11,7 @@ mod reading;
 
 pub use command::{Command, Tbl};
 pub use faults::LineFault;
-pub use laws::{forms_are_exact, readings_are_exact};
+pub use laws::{forms_are_exact, read_commands_are_typed, readings_are_exact};
 pub use limits::LINE_BYTES_MAX;
 pub use reading::parse_line;
 pub use script_grammar::Src;
