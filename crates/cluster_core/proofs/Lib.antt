@@ -2,12 +2,10 @@ pub mod Tables
 pub mod Kept
 pub mod Looking
 pub mod Flow
-pub mod KeyKinds
 pub mod Adding
 pub mod SchemaCommands
 pub mod Reading
 pub mod Versions
-pub mod Sizes
 pub mod Names
 pub mod FullLayers
 pub mod Backing

@@ -21,7 +21,7 @@ use Rattle.cluster_core.specs.ClusterView.{ClusterState}
 use Rattle.cluster_core.specs.Finding.{found_in}
 use Rattle.cluster_core.specs.Standing.{Keeps, machine_of, IsStepped, Refuses}
 use Rattle.mvcc_keys.proofs.TimeOrder.{le-refl}
-use Rattle.cluster_core.proofs.KeyKinds.{kinds-kept}
+use Rattle.machine_model.proofs.KeyKinds.{kinds-kept}
 use Rattle.cluster_core.proofs.Kept.{in_force-has, redated, keeps-as, keeps-new, keeps-described}
 use Rattle.machine_model.proofs.Past.{next-later}
 use Rattle.cluster_core.proofs.Looking.{Sees, found_by, sees}

@@ -1,15 +1,12 @@
 -- Objects that stand for a machine stand for each later one, and so those that stand for a script stand for each longer one.
-use Rattle.std.proofs.Common.{◌≡◌, inl, ⊎_elim, ℕ, zero, suc, ◌+◌, ◌<◌, ◌≤◌, Bool, true, false, List, [], ◌∷◌, ◌++◌, length, refl, sym, ap, subst, ◌∙◌, arith, Contains}
-use Rattle.std.specs.Prelude.{Option, Some, None, slice_get, option_map, is_none}
-use Rattle.std.specs.List.{AllByRecursion}
-use Rattle.mvcc_keys.specs.Times.{Time, time_le}
-use Rattle.history_model.specs.Histories.{Table}
+use Rattle.std.proofs.Common.{◌≡◌, ℕ, zero, suc, ◌+◌, ◌<◌, true, List, [], ◌∷◌, length, refl, sym, ap, subst, ◌∙◌, arith, Contains}
+use Rattle.std.specs.Prelude.{Option, Some, None, slice_get, option_map}
 use Rattle.history_model.specs.Layers as recorded
 use Rattle.outside_world.specs.Objects.{Objects, at}
 use Rattle.layer_model.specs.declared.names.ObjectName.{ObjectName}
 use Rattle.layer_model.specs.declared.names.Part.{Part}
-use Rattle.layer_model.specs.declared.names.Part.TheVariants.{Gate, Manifest, Chunk, Mark}
-use Rattle.layer_model.specs.Names.{IsNumbered, IsObjectName}
+use Rattle.layer_model.specs.declared.names.Part.TheVariants.{Gate, Mark}
+use Rattle.layer_model.specs.Names.{IsObjectName}
 use Rattle.layer_model.specs.Layers.{HasPart, LayerObjects, name_of_part}
 use Rattle.layer_model.proofs.NameLaws.{name-found, names-differ}
 use Rattle.layer_model.proofs.LayerLaws.{part_is_numbered}
@@ -18,13 +15,10 @@ use Rattle.layer_objects.specs.Objects.{objects_of}
 use Rattle.layer_objects.specs.Past.{AreBegun}
 use Rattle.layer_objects.specs.Storable.{older_manifest}
 use Rattle.layer_objects.proofs.Final.{layers-final}
-use Rattle.command_lang.specs.declared.command.Command.{Command}
-use Rattle.command_lang.specs.Lines.{Reading, Skipped, Reads, Malformed, reading}
-use Rattle.machine_model.specs.Machine.{Backup, Job, Machine, Stepped, World}
-use Rattle.machine_model.specs.Step.{step}
-use Rattle.machine_model.specs.Past.{IsLater, IsLaterIn}
+use Rattle.machine_model.specs.Machine.{Backup, Job, Machine}
+use Rattle.machine_model.specs.Past.{IsLater}
 use Rattle.machine_model.specs.Orders.{IsInOrder}
-use Rattle.machine_model.specs.Disks.{StandsUntil, can_be_stored, made_layers, setting_of}
+use Rattle.machine_model.specs.Disks.{StandsUntil, can_be_stored, made_layers}
 use Rattle.machine_model.proofs.Lists.{got-left}
 use Rattle.machine_model.proofs.Settings.{IsFit, IsMade, fits, is-among, made}
 use Rattle.machine_model.specs.Extensions.{LaterMachinesStand}

@@ -7,3 +7,13 @@ pub mod Past
 pub mod Orders
 pub mod Extensions
 pub mod LongerScripts
+pub mod ProperLists
+pub mod ProperTables
+pub mod KeyKinds
+pub mod Sizes
+pub mod ProperFacts
+pub mod ProperSteps
+pub mod ProperCommands
+pub mod ProperWalk
+pub mod ProperFinal
+pub mod ProperScripts

@@ -1,8 +1,6 @@
 -- A script ends in the machine after its commands, and a longer one in a later machine.
 use Rattle.std.proofs.Common.{◌≡◌, ℕ, zero, suc, ◌+◌, ◌==◌, Bool, true, false, List, [], ◌∷◌, ◌++◌, refl, sym, ap, subst, ◌∙◌}
 use Rattle.std.specs.Prelude.{Option, Some, None, is_none}
-use Rattle.mvcc_keys.specs.Times.{zero_time}
-use Rattle.outside_world.specs.Objects.{Objects}
 use Rattle.command_lang.specs.declared.command.Command.{Command}
 use Rattle.command_lang.specs.declared.command.Command.TheVariants.{Cluster}
 use Rattle.command_lang.specs.Lines.{Reading, Skipped, Reads, Malformed, reading}
@@ -12,7 +10,7 @@ use Rattle.machine_model.specs.Step.{step}
 use Rattle.machine_model.specs.Past.{IsLater}
 use Rattle.machine_model.specs.Orders.{IsInOrder}
 use Rattle.machine_model.specs.Disks.{StandsUntil}
-use Rattle.machine_model.specs.Script.{Line, Within, Beyond, command_step, first_machine, first_step, lines, machine_after, machine_in, outcome, put_front, reading_before, read_at, reply_before, response_of, script_outcome}
+use Rattle.machine_model.specs.Script.{Line, Within, Beyond, command_step, first_machine, first_step, lines, machine_after, machine_in, outcome, put_front, reading_before, reply_before, response_of, script_outcome}
 use Rattle.machine_model.specs.Extensions.{AppendedScriptsGoOn, LongerScriptsStand, ScriptsEndByCommands, commands_in, commands_with, if_stepped, machine_from, script_commands}
 use Rattle.machine_model.proofs.Past.{later-same, later-then, steps-later}
 use Rattle.machine_model.proofs.Orders.{steps-order}

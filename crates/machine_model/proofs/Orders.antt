@@ -1,6 +1,6 @@
 -- Whatever the command, the machine after it is in order again.
-use Rattle.std.proofs.Common.{◌≡◌, ◌≢◌, inl, inr, ⊎_elim, ℕ, zero, suc, Bool, true, false, not, List, [], ◌∷◌, ◌++◌, map, length, eqb, refl, sym, ap, subst, ◌∙◌, arith, ◌&&◌}
-use Rattle.std.specs.Prelude.{Option, Some, None, slice_get, slice_set, unwrap_or, option_and_then}
+use Rattle.std.proofs.Common.{◌≡◌, ◌≢◌, inl, inr, ⊎_elim, ℕ, Bool, true, false, not, List, [], ◌∷◌, ◌++◌, map, length, eqb, refl, sym, subst, ◌∙◌, arith, ◌&&◌}
+use Rattle.std.specs.Prelude.{Option, Some, None, slice_get, slice_set, unwrap_or}
 use Rattle.std.specs.List.{find}
 use Rattle.std.proofs.lemmas.Bool.{cases_Bool}
 use Rattle.std.proofs.lemmas.Bool.Decides.{nat_tests}
@@ -34,16 +34,15 @@ use Rattle.chain_resolver.specs.Best.{Chain, Cover, Uncovered, cover}
 use Rattle.id_remap.specs.declared.targets.Target.TheVariants as target
 use Rattle.id_remap.specs.Remapping.{new_ids, remapped_schema}
 use Rattle.script_grammar.specs.declared.backups.Src.{Src}
-use Rattle.layer_objects.specs.Past.{IsBegun}
 use Rattle.machine_model.specs.Machine.{Backup, Job, Restore, Machine, Stepped, answered, catalog_of, first_refusal, refusal_if, unless_refused, with_time, drawing, with_found, for_table}
 use Rattle.machine_model.specs.Refusals.{catalog_refusal}
 use Rattle.machine_model.specs.Tables.{tick, create_database, create_table, new_table, with_new_table, alter, drop_table, described, with_descriptor}
-use Rattle.machine_model.specs.TableRows.{adding, upsert, delete, delete_range, select, select_at, collect, future_refusal, raised, with_threshold, extended, with_facts}
+use Rattle.machine_model.specs.TableRows.{adding, upsert, delete, delete_range, select, select_at, collect, raised, with_threshold, extended}
 use Rattle.machine_model.specs.Backups.{ending, full_layer, full_backup, with_backup, absent_refusal, backup_database, ids_named, backup_tables, show_backups, source_among, own_subdirectories, layers_in, with_source, is_between_times, forgetting, forget}
 use Rattle.machine_model.specs.Restores.{links_of, time_of, layers_at, with_cover, last_of, chosen_tables, restored_table, restore_chosen, restore_chain, restore_database, with_restored}
 use Rattle.machine_model.specs.Step.{step}
 use Rattle.machine_model.specs.Orders.{AreBackupsUpTo, AreTablesUpTo, IsInOrder, IsLayerUpTo, IsTableUpTo, StepsKeepOrder}
-use Rattle.machine_model.proofs.Lists.{got-set, got-set_other, got-left, got-either}
+use Rattle.machine_model.proofs.Lists.{got-set, got-set_other, got-either}
 use Rattle.machine_model.proofs.Past.{changed-modified, named-there, new-modified, next-later, restored-modified}
 
 -- ---- descriptors

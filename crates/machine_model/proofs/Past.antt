@@ -1,5 +1,5 @@
 -- No command changes what was true up to the clock.
-use Rattle.std.proofs.Common.{◌≡◌, ◌≢◌, ◌+◌, nat_lt, inl, inr, ⊎_elim, ℕ, ◌<◌, length, Bool, true, false, not, List, [], ◌∷◌, ◌++◌, map, eqb, refl, sym, ap, subst, ◌∙◌, arith, append_assoc}
+use Rattle.std.proofs.Common.{◌≡◌, ◌≢◌, ◌+◌, nat_lt, inl, inr, ⊎_elim, ℕ, ◌<◌, length, Bool, true, false, not, List, [], ◌∷◌, ◌++◌, map, eqb, refl, sym, ap, subst, ◌∙◌, arith}
 use Rattle.std.specs.Prelude.{Option, Some, None, option_map, option_and_then, unwrap_or, slice_get, slice_set}
 use Rattle.std.specs.List.{find}
 use Rattle.std.proofs.lemmas.Bool.{cases_Bool}
@@ -18,7 +18,7 @@ use Rattle.table_descriptors.specs.declared.scopes.Scope.TheVariants.{Database, 
 use Rattle.fact_model.specs.Facts.{Del, DelRange, date}
 use Rattle.list_laws.specs.Members.{Has}
 use Rattle.list_laws.proofs.Members.{filter-has, has-append_cases, map-has}
-use Rattle.mvcc_keys.proofs.TimeOrder.{le-refl, le-trans, lt-le, lt-trans, le-lt-lt}
+use Rattle.mvcc_keys.proofs.TimeOrder.{le-refl, le-trans, lt-le, lt-trans}
 use Rattle.history_model.specs.Rows.{Key, RowFact, put_of}
 use Rattle.history_model.specs.Histories.{History, Table, Found, found_at, in_force, named, place_named, schemas_of}
 use Rattle.history_model.specs.Layers.{LayerRecord}

@@ -4,8 +4,6 @@ use Rattle.std.specs.Prelude.{slice_get}
 use Rattle.std.proofs.lemmas.Option.{get_or_from_slice_get, slice_get_within}
 use Rattle.list_laws.specs.Members.{Has}
 use Rattle.list_laws.proofs.Members.{Contains-has}
-use Rattle.history_model.specs.Histories.{Table}
-use Rattle.history_model.specs.Layers as recorded
 use Rattle.outside_world.specs.Disk.{View}
 use Rattle.outside_world.specs.Objects.{Objects, at}
 use Rattle.layer_model.specs.declared.names.LayerName.{LayerName}
@@ -14,7 +12,7 @@ use Rattle.layer_model.specs.Names.{object_name}
 use Rattle.layer_model.specs.Layers.{IsOpen, IsSafe, LayerObjects}
 use Rattle.layer_model.proofs.StandsLaws.{empty_stands}
 use Rattle.collection_dir.specs.Safety.{IsSafeInEither}
-use Rattle.layer_objects.specs.Objects.{name_of_record, objects_of}
+use Rattle.layer_objects.specs.Objects.{objects_of}
 use Rattle.layer_objects.specs.Storable.{older_manifest}
 use Rattle.layer_objects.proofs.Names.{objects-name}
 use Rattle.machine_model.specs.Machine.{Backup, Machine}

@@ -23,7 +23,7 @@ use Rattle.reply_texts.specs.declared.refusals.Refusal.{Refusal}
 use Rattle.reply_texts.specs.declared.refusals.Refusal.TheVariants.{NoSuchDatabase, NoSuchBackup, NoSuchLayer, EndNotAfter, StartCollected, Collected}
 use Rattle.reply_texts.specs.declared.answers.Answer.{Answer}
 use Rattle.reply_texts.specs.declared.answers.Answer.TheVariants.{Plain, BackupDone, BackupsShown}
-use Rattle.machine_model.specs.Machine.{Backup, Machine, Stepped, catalog_of, answered, refused, refusal_if, judged, drawing, with_found}
+use Rattle.machine_model.specs.Machine.{Backup, Machine, Stepped, catalog_of, answered, refusal_if, judged, drawing, with_found}
 use Rattle.machine_model.specs.Refusals.{catalog_refusal}
 use Rattle.machine_model.specs.TableRows.{future_refusal}
 

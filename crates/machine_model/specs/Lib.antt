@@ -11,3 +11,5 @@ pub mod Past
 pub mod LineLaws
 pub mod Orders
 pub mod Extensions
+pub mod Proper
+pub mod ProperMachines

@@ -4,6 +4,7 @@ ghost use Rattle.machine_model.specs.Extensions.{AppendedScriptsGoOn, LaterMachi
 ghost use Rattle.machine_model.specs.LineLaws.{ScriptsAreTheirLines};
 ghost use Rattle.machine_model.specs.Orders.{StepsKeepOrder};
 ghost use Rattle.machine_model.specs.Past.{StepsAreLater};
+ghost use Rattle.machine_model.specs.ProperMachines.{ScriptsHaveProperHistories, StepsKeepHistory};
 
 use outside_world::Disk;
 
@@ -40,6 +41,17 @@ pub fn steps_are_later()
 /// the clock to another such machine.
 pub fn steps_keep_order()
     ensures { StepsKeepOrder }
+{}
+
+/// A law: a command in form that is no restore leads from a machine with a proper history to
+/// another such machine.
+pub fn steps_keep_history()
+    ensures { StepsKeepHistory }
+{}
+
+/// A law: the machine at the end of a script that restores nothing has a proper history, in order.
+pub fn scripts_have_proper_histories()
+    ensures { ScriptsHaveProperHistories }
 {}
 
 /// A law: a script ends in the machine to which its commands lead one after the other.

@@ -7,6 +7,7 @@ mod limits;
 pub use laws::{
     appended_scripts_go_on, complete_disks_are_done, empty_disks_are_ready, later_machines_stand,
     longer_scripts_stand, open_layers_are_the_machines, scripts_are_their_lines,
-    scripts_end_by_commands, steps_are_later, steps_keep_order,
+    scripts_end_by_commands, scripts_have_proper_histories, steps_are_later, steps_keep_history,
+    steps_keep_order,
 };
 pub use limits::{EVENTS_MAX, SCRIPT_BYTES_MAX, TABLES_MAX};

@@ -6,7 +6,7 @@ use Rattle.reply_texts.specs.declared.answers.Answer.TheVariants.{RowsWritten}
 use Rattle.machine_model.specs.TableRows.{delete}
 use Rattle.cluster_core.proofs.Flow.{exit_by, exit_missing, exit_rows}
 use Rattle.cluster_core.proofs.Adding.{adds-missing, adds-offline, adds-fault, adds-room, adds-done, map-dated}
-use Rattle.cluster_core.proofs.Sizes.{keys-sized}
+use Rattle.machine_model.proofs.Sizes.{keys-sized}
 use Rattle.cluster_core.proofs.cluster.Cluster.delete.Goals as goal
 
 pub returns-in_err-d-clause-step : goal.returns-in_err-d-clause-step

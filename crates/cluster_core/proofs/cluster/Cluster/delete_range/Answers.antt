@@ -5,7 +5,7 @@ use Rattle.reply_texts.specs.declared.answers.Answer.TheVariants.{RangeDeleted}
 use Rattle.machine_model.specs.TableRows.{delete_range}
 use Rattle.cluster_core.proofs.Flow.{exit_by, exit_missing, exit_rows}
 use Rattle.cluster_core.proofs.Adding.{adds-missing, adds-offline, adds-fault, adds-room, adds-done, map-dated}
-use Rattle.cluster_core.proofs.Sizes.{range-sized}
+use Rattle.machine_model.proofs.Sizes.{range-sized}
 use Rattle.cluster_core.proofs.cluster.Cluster.delete_range.Goals as goal
 
 pub returns-in_err-d-clause-step : goal.returns-in_err-d-clause-step

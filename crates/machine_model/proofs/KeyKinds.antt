@@ -35,7 +35,7 @@ find-map : (p : Column → Bool) (r : Column → Column) (xs : List Column) → 
 find-map p r [] same kinds = refl
 find-map p r (x ∷ xs) same kinds = elim (cases (p x)) [ inl t ↦ rw (same x, t) (ap Some (kinds x)) | inr f ↦ rw (same x, f) (find-map p r xs same kinds) ]
 
-all-has : {X : Type 0} (p : X → Bool) (xs : List X) (x : X) → list_all p xs ≡ true → Has x xs → p x ≡ true
+pub all-has : {X : Type 0} (p : X → Bool) (xs : List X) (x : X) → list_all p xs ≡ true → Has x xs → p x ≡ true
 all-has p [] x all has = absurd has
 all-has p (y ∷ ys) x all has = elim (cases (p y)) [ inl t ↦ elim has [ inl e ↦ rw e t | inr more ↦ all-has p ys x (rw t at all) more ] | inr f ↦ (let no : false ≡ true = rw f at all in absurd cc) ]
 
