@@ -1,7 +1,6 @@
 pub mod ClusterView
 pub mod Halting
 pub mod Finding
-pub mod FullLayers
 pub mod Standing
 pub mod Backing
 pub mod Chains

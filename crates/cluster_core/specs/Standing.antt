@@ -4,7 +4,7 @@ use Rattle.mvcc_keys.specs.Times.{Time, zero_time, time_le, time_lt}
 use Rattle.row_codec.specs.declared.rows.Kind.{Kind}
 use Rattle.table_descriptors.specs.Descriptors.{Schema, key_kinds}
 use Rattle.fact_model.specs.Facts.{date}
-use Rattle.std.specs.List.{Contains}
+use Rattle.std.specs.List.{AllByRecursion, Contains}
 use Rattle.list_laws.specs.Members.{Has}
 use Rattle.history_model.specs.Rows.{RowFact}
 use Rattle.history_model.specs.Histories.{Table, schemas_of, accepted}
@@ -13,13 +13,13 @@ use Rattle.introduced_spans.specs.PlanLaws.{ascend_after}
 use Rattle.version_store.specs.MapHolding.{KeepsAll}
 use Rattle.table_rows.specs.RowTables.{HasRows}
 use Rattle.layer_manifest.specs.declared.manifest.Manifest.{Manifest}
+use Rattle.layer_manifest.specs.declared.manifest.TablePart.{TablePart}
 use Rattle.layer_manifest.specs.Manifests.{IsProperManifest, chunk_count}
 use Rattle.layer_manifest.specs.ManifestFiles.{manifest_code}
 use Rattle.layer_model.specs.declared.names.LayerName.{LayerName}
 use Rattle.layer_model.specs.Layers.{IsLayer}
-use Rattle.layer_objects.specs.Objects.{objects_of, rows_of, table_kinds}
-use Rattle.layer_objects.specs.Storable.{IsSized}
-use Rattle.cluster_core.specs.FullLayers.{IsFull}
+use Rattle.layer_objects.specs.Objects.{bare, objects_of, rows_of, table_kinds}
+use Rattle.layer_objects.specs.Storable.{AreListable, IsRecord, IsSized}
 use Rattle.reply_texts.specs.declared.refusals.Refusal.{Refusal}
 use Rattle.reply_texts.specs.declared.answers.Answer.{Answer}
 use Rattle.reply_texts.specs.declared.replies.Response.{Response}
@@ -47,7 +47,7 @@ pub record IsOwn (id : ℕ) (kinds : List Kind) (d : Schema) : Type 0 where
   pub id_is : d.id ≡ id
   pub kinds_are : kinds ≡ key_kinds d
 
--- the table of an id: it has a descriptor, their dates ascend, its facts are dated after zero_time, nothing of it is dated after the clock, and a layer can hold its facts
+-- the table of an id: it has a descriptor, their dates ascend and they have the same key columns, its facts are dated after zero_time, nothing of it is dated after the clock, and a layer can hold its facts
 pub record IsOrderly (clock : Time) (id : ℕ) (table : Table) : Type 0 where
   pub id_is : table.id ≡ id
   pub schemas : (d : Schema) → Has d table.descriptors → IsOwn id (table_kinds table) d
@@ -58,6 +58,7 @@ pub record IsOrderly (clock : Time) (id : ℕ) (table : Table) : Type 0 where
   pub dated : (d : Schema) → Has d table.descriptors → time_le d.modified clock ≡ true
   pub ascend : ascend_after zero_time table.descriptors ≡ true
   pub begun : table.descriptors ≢ []
+  pub keyed : (d e : Schema) → Has d table.descriptors → Has e table.descriptors → d.key_columns ≡ e.key_columns
 
 -- the cluster has these tables: its catalog their descriptors, its store their facts
 pub record Keeps (c : ClusterState) (tables : List Table) : Type 0 where
@@ -81,9 +82,11 @@ pub record HasTables (c : ClusterState) (m : Machine) : Type 0 where
 pub record IsOwnBackup (c : ClusterState) (tables : List Table) (place : ℕ) (r : LayerRecord) : Type 0 where
   pub number : r.job ≡ place + 1
   pub cluster : r.cluster ≡ c.name
-  pub full : IsFull r
+  pub is : IsRecord r
+  pub version : r.version ≡ 2
   pub over : time_le r.end c.clock ≡ true
   pub few : IsLayer (objects_of tables r)
+  pub listed : AllByRecursion (λ (t : TablePart). AreListable t.descriptors) (bare tables r).tables
 
 -- a layer in the book is one of a backup, and its manifest there is that of its objects
 pub record IsBooked (jobs : List Job) (tables : List Table) (p : LayerName × Manifest) : Type 0 where
@@ -92,10 +95,15 @@ pub record IsBooked (jobs : List Job) (tables : List Table) (p : LayerName × Ma
   pub chunks : chunk_count p.1.tables ≡ length (objects_of tables (record_of p)).chunks
   pub proper : IsProperManifest p.1
 
+-- layers of one subdirectory have one scope
+abbrev pub AreOfOneScope : List LayerRecord → Type 0
+AreOfOneScope rs = (q r : LayerRecord) → Has q rs → Has r rs → q.collection ≡ r.collection → q.full ≡ r.full → q.scope ≡ r.scope
+
 -- the cluster keeps the records of its backups, and the manifests of its own layers
 pub record HasBackups (c : ClusterState) (tables : List Table) : Type 0 where
   pub backups : (place : ℕ) (r : LayerRecord) → slice_get c.jobs place ≡ Some (Backup r) → IsOwnBackup c tables place r
   pub layers : (p : LayerName × Manifest) → Has p c.book.layers → IsBooked c.jobs tables p
+  pub scopes : AreOfOneScope (map record_of c.book.layers)
 
 -- the cluster stands for the machine
 pub record StandsFor (c : ClusterState) (m : Machine) : Type 0 where

@@ -233,8 +233,8 @@ layer_leads =
 layer_family : Family layer_leads layer_command
 unfolding layer_command layer_leads
 layer_family =
-    or_ _ _ _ _ (or_ _ _ _ _ (or_ _ _ _ _ (or_ _ _ _ _ (made _ backup_database (λ x. BackupDatabase x.0 x.1 x.2) backup_database_right backup_database_leads)
-    (made _ backup_tables (λ x. BackupTables x.0 x.1 x.2) backup_tables_right backup_tables_leads) refl)
+    or_ _ _ _ _ (or_ _ _ _ _ (or_ _ _ _ _ (or_ _ _ _ _ (made _ backup_database (λ x. BackupDatabase x.0 x.1 x.2 false) backup_database_right backup_database_leads)
+    (made _ backup_tables (λ x. BackupTables x.0 x.1 x.2 false) backup_tables_right backup_tables_leads) refl)
     (made _ restore_database (λ x. RestoreDatabase x.0 x.1 x.2 x.3 x.4) restore_database_right restore_database_leads) refl)
     (made _ forget (λ x. Forget x.0 x.1 x.2 x.3) forget_right forget_leads) refl)
     (made _ show_backups ShowBackups show_backups_right show_backups_leads) refl

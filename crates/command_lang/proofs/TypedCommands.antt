@@ -131,9 +131,9 @@ gc-typed = making-gets IsCollection IsTyped _ (λ x. Gc x.0 x.1)
 abbrev IsBackup : List ℕ × List ℕ × Option Time → Type 0
 IsBackup x = IsName x.0 × IsName x.1 × IfGiven IsTime x.2
 
-backup_database-typed : Gets IsTyped (backup_database making (λ x. BackupDatabase x.0 x.1 x.2))
+backup_database-typed : Gets IsTyped (backup_database making (λ x. BackupDatabase x.0 x.1 x.2 false))
 unfolding backup_database
-backup_database-typed = making-gets IsBackup IsTyped _ (λ x. BackupDatabase x.0 x.1 x.2)
+backup_database-typed = making-gets IsBackup IsTyped _ (λ x. BackupDatabase x.0 x.1 x.2 false)
     (word-gets IsBackup _ _ (word-gets IsBackup _ _ (then-gets IsName IsBackup name _ name-gets (λ d id. word-gets IsBackup _ _ (then-gets IsName IsBackup (one collection_of) _ collection-gets (λ c ic.
     then-gets (IfGiven IsTime) IsBackup asof _ asof-gets (λ at is. ending-gets IsBackup (d, c, at) (id, ic, is))))))))
     (λ x is. is)
@@ -141,9 +141,9 @@ backup_database-typed = making-gets IsBackup IsTyped _ (λ x. BackupDatabase x.0
 abbrev IsTablesBackup : List (List ℕ × List ℕ) × List ℕ × Option Time → Type 0
 IsTablesBackup x = AreTables x.0 × IsName x.1 × IfGiven IsTime x.2
 
-backup_tables-typed : Gets IsTyped (backup_tables making (λ x. BackupTables x.0 x.1 x.2))
+backup_tables-typed : Gets IsTyped (backup_tables making (λ x. BackupTables x.0 x.1 x.2 false))
 unfolding backup_tables
-backup_tables-typed = making-gets IsTablesBackup IsTyped _ (λ x. BackupTables x.0 x.1 x.2)
+backup_tables-typed = making-gets IsTablesBackup IsTyped _ (λ x. BackupTables x.0 x.1 x.2 false)
     (word-gets IsTablesBackup _ _ (word-gets IsTablesBackup _ _ (then-gets AreTables IsTablesBackup tables _ tables-gets (λ ts it. word-gets IsTablesBackup _ _ (then-gets IsName IsTablesBackup (one collection_of) _ collection-gets (λ c ic.
     then-gets (IfGiven IsTime) IsTablesBackup asof _ asof-gets (λ at is. ending-gets IsTablesBackup (ts, c, at) (it, ic, is))))))))
     (λ x is. is)

@@ -255,8 +255,8 @@ row_command =
 
 unfoldable pub layer_command : Form Command
 layer_command =
-    backup_database making (λ x. BackupDatabase x.0 x.1 x.2)
-    or backup_tables making (λ x. BackupTables x.0 x.1 x.2)
+    backup_database making (λ x. BackupDatabase x.0 x.1 x.2 false)
+    or backup_tables making (λ x. BackupTables x.0 x.1 x.2 false)
     or restore_database making (λ x. RestoreDatabase x.0 x.1 x.2 x.3 x.4)
     or forget making (λ x. Forget x.0 x.1 x.2 x.3)
     or show_backups making ShowBackups

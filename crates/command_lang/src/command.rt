@@ -72,11 +72,18 @@ pub enum Command {
         database: Name,
         collection: Name,
         at: Option<Hlc>,
+        history: bool,
     },
     BackupTables {
         tables: Items<Tbl>,
         collection: Name,
         at: Option<Hlc>,
+        history: bool,
+    },
+    BackupLatest {
+        collection: Name,
+        at: Option<Hlc>,
+        history: bool,
     },
     RestoreDatabase {
         database: Name,

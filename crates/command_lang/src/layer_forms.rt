@@ -1,5 +1,5 @@
 //! The forms of backups and restores, and the commands that they make.
-ghost use Rattle.std.specs.Prelude.{◌≡◌, []};
+ghost use Rattle.std.specs.Prelude.{◌≡◌, false, []};
 ghost use Rattle.script_grammar.specs.Grammar.{Gives, ◌making◌};
 ghost use Rattle.command_lang.specs.declared.command.Command.TheVariants.{BackupDatabase, BackupTables, RestoreDatabase, Forget, ShowBackups};
 ghost use Rattle.command_lang.specs.Forms.{backup_database, backup_tables, restore_with, restore_at, restore_database, forget_to, forget_layer, forget, show_backups, layer_command};
@@ -142,24 +142,26 @@ fn show_backups(alloc: Global, tokens: &[Token]) -> Result<Name, Broken>
 }
 
 fn backup_database_command(alloc: Global, tokens: &[Token]) -> Result<Command, Broken>
-    ensures { Gives (λ x. x) (λ x. []) result ((backup_database making (λ x. BackupDatabase x.0 x.1 x.2)).read tokens.now) }
+    ensures { Gives (λ x. x) (λ x. []) result ((backup_database making (λ x. BackupDatabase x.0 x.1 x.2 false)).read tokens.now) }
 {
     let (database, collection, at) = backup_database(alloc, tokens)?;
     Ok(Command::BackupDatabase {
         database,
         collection,
         at,
+        history: false,
     })
 }
 
 fn backup_tables_command(alloc: Global, tokens: &[Token]) -> Result<Command, Broken>
-    ensures { Gives (λ x. x) (λ x. []) result ((backup_tables making (λ x. BackupTables x.0 x.1 x.2)).read tokens.now) }
+    ensures { Gives (λ x. x) (λ x. []) result ((backup_tables making (λ x. BackupTables x.0 x.1 x.2 false)).read tokens.now) }
 {
     let (tables, collection, at) = backup_tables(alloc, tokens)?;
     Ok(Command::BackupTables {
         tables,
         collection,
         at,
+        history: false,
     })
 }
 

@@ -3,6 +3,7 @@ pub mod ReadyLaws
 pub mod Settings
 pub mod LinesOf
 pub mod Lists
+pub mod Passing
 pub mod Past
 pub mod Orders
 pub mod Extensions

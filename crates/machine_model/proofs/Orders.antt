@@ -29,19 +29,21 @@ use Rattle.reply_texts.specs.declared.refusals.Refusal.{Refusal}
 use Rattle.reply_texts.specs.declared.refusals.Refusal.TheVariants.{Future, TickBack, NoSuchBackup, NoSuchLayer, NoSuchTable, NothingToRestore}
 use Rattle.reply_texts.specs.declared.answers.Answer.{Answer}
 use Rattle.reply_texts.specs.declared.answers.Answer.TheVariants.{ClockSet, RangeDeleted, RowsWritten}
-use Rattle.command_lang.specs.declared.command.Command.TheVariants.{Cluster, Tick, CreateDatabase, CreateTable, AddColumn, DropColumn, RenameColumn, RenameTable, DropTable, Upsert, Delete, DeleteRange, Select, Gc, BackupDatabase, BackupTables, RestoreDatabase, Forget, ShowBackups}
+use Rattle.command_lang.specs.declared.command.Command.TheVariants.{Cluster, Tick, CreateDatabase, CreateTable, AddColumn, DropColumn, RenameColumn, RenameTable, DropTable, Upsert, Delete, DeleteRange, Select, Gc, BackupDatabase, BackupTables, BackupLatest, RestoreDatabase, Forget, ShowBackups}
 use Rattle.chain_resolver.specs.Best.{Chain, Cover, Uncovered, cover}
 use Rattle.id_remap.specs.declared.targets.Target.TheVariants as target
 use Rattle.id_remap.specs.Remapping.{new_ids, remapped_schema}
 use Rattle.script_grammar.specs.declared.backups.Src.{Src}
+use Rattle.machine_model.specs.declared.extents.Extent.{Extent}
 use Rattle.machine_model.specs.Machine.{Backup, Job, Restore, Machine, Stepped, answered, catalog_of, first_refusal, refusal_if, unless_refused, with_time, drawing, with_found, for_table}
 use Rattle.machine_model.specs.Refusals.{catalog_refusal}
 use Rattle.machine_model.specs.Tables.{tick, create_database, create_table, new_table, with_new_table, alter, drop_table, described, with_descriptor}
 use Rattle.machine_model.specs.TableRows.{adding, upsert, delete, delete_range, select, select_at, collect, raised, with_threshold, extended}
-use Rattle.machine_model.specs.Backups.{ending, full_layer, full_backup, with_backup, absent_refusal, backup_database, ids_named, backup_tables, show_backups, source_among, own_subdirectories, layers_in, with_source, is_between_times, forgetting, forget}
+use Rattle.machine_model.specs.Backups.{ending, layer_record, backup, end_refusal, plan_refusal, full_extent, last_full, last_end, next_extent, with_backup, absent_refusal, backup_database, ids_named, backup_latest, backup_tables, show_backups, source_among, own_subdirectories, layers_in, with_source, is_between_times, forgetting, forget}
 use Rattle.machine_model.specs.Restores.{links_of, time_of, layers_at, with_cover, last_of, chosen_tables, restored_table, restore_chosen, restore_chain, restore_database, with_restored}
 use Rattle.machine_model.specs.Step.{step}
 use Rattle.machine_model.specs.Orders.{AreBackupsUpTo, AreTablesUpTo, IsInOrder, IsLayerUpTo, IsTableUpTo, StepsKeepOrder}
+use Rattle.machine_model.proofs.Passing.{first-passed, floor-within, others-passed}
 use Rattle.machine_model.proofs.Lists.{got-set, got-set_other, got-either}
 use Rattle.machine_model.proofs.Past.{changed-modified, named-there, new-modified, next-later, restored-modified}
 
@@ -251,8 +253,14 @@ module _ (m : Machine) (o : IsInOrder m) where
       unless-order m _ _ o (order-history m (with_threshold m f t).history (tables-set m.clock m.history.tables f.place f.table (record f.table { threshold = t }) got o.tables
       (record { begun = record { some = old.begun.some; ascend = old.begun.ascend }; dated = old.dated })) o))
 
-  full-order : (tests : List (Option Refusal)) (collection : List ℕ) (scope : Scope) (end clock : Time) → time_le m.clock clock ≡ true → time_le end clock ≡ true → IsInOrder (full_backup m tests collection scope end clock).machine
-  full-order tests collection scope end clock le over = unless-order m _ _ o (order-backup m clock (full_layer m collection scope end) le (zero-le end) over o)
+  passed-order : (test : Option Refusal) (change : Stepped) → (test ≡ None → IsInOrder change.machine) → IsInOrder (unless_refused m test change).machine
+  passed-order None change is = is refl
+  passed-order (Some refusal) change is = o
+
+  layer-order : (tests : List (Option Refusal)) (x : Extent) (last clock : Time) → time_le x.start last ≡ true → time_le m.clock clock ≡ true → time_le x.end clock ≡ true → IsInOrder (backup m tests x last clock).machine
+  layer-order tests x last clock from le over = passed-order _ _ (λ passed.
+      let both = first-passed (end_refusal x.end last) (plan_refusal m x ∷ []) (others-passed tests _ passed) in
+      order-backup m clock (layer_record m x) le (floor-within m x last from both.0 (first-passed (plan_refusal m x) [] both.1).0) over o)
 
   ending-order : (at : Option Time) (change : Time → Time → Stepped) → ((end clock : Time) → time_le m.clock clock ≡ true → time_le end clock ≡ true → IsInOrder (change end clock).machine) → IsInOrder (ending m at change).machine
   ending-order None change is = drawing-order m (λ t. change t t) o (λ t after. is t t (lt-le m.clock t after) (le-refl t))
@@ -262,17 +270,22 @@ module _ (m : Machine) (o : IsInOrder m) where
       by true after = o
       by false after = is t m.clock (le-refl m.clock) (not_lt-le m.clock t after)
 
-  backup-order : (database collection : List ℕ) (at : Option Time) → IsInOrder (backup_database m database collection at).machine
+  backup-order : (database collection : List ℕ) (at : Option Time) (history : Bool) → IsInOrder (backup_database m database collection at history).machine
   unfolding backup_database
-  backup-order database collection at = ending-order at _ (full-order (absent_refusal (catalog_of m) database ∷ []) collection (Database database))
+  backup-order database collection at history = ending-order at _ (λ end clock. layer-order (absent_refusal (catalog_of m) database ∷ []) (full_extent collection (Database database) history end) (last_full m collection) clock (zero-le (last_full m collection)))
 
-  tables-order : (names : List (List ℕ × List ℕ)) (collection : List ℕ) (at : Option Time) → IsInOrder (backup_tables m names collection at).machine
+  tables-order : (names : List (List ℕ × List ℕ)) (collection : List ℕ) (at : Option Time) (history : Bool) → IsInOrder (backup_tables m names collection at history).machine
   unfolding backup_tables
-  tables-order names collection at = ending-order at _ (λ end clock. full-order (catalog_refusal (missing_fault (catalog_of m) end names) ∷ catalog_refusal (offline_fault (catalog_of m) end names) ∷ [])
-      collection (Tables (ids_named (schemas_of m.history.tables) names end)) end clock)
+  tables-order names collection at history = ending-order at _ (λ end clock. layer-order (catalog_refusal (missing_fault (catalog_of m) end names) ∷ catalog_refusal (offline_fault (catalog_of m) end names) ∷ [])
+      (full_extent collection (Tables (ids_named (schemas_of m.history.tables) names end)) history end) (last_full m collection) clock (zero-le (last_full m collection)))
 
   source-order : (source : Src) (collection : List ℕ) (change : List ℕ × Time → Stepped) → ((s : List ℕ × Time) → IsInOrder (change s).machine) → IsInOrder (with_source m source collection change).machine
   source-order source collection change is = found-order m NoSuchBackup (source_among source (own_subdirectories m collection)) change o (λ s e. is s)
+
+  latest-order : (collection : List ℕ) (at : Option Time) (history : Bool) → IsInOrder (backup_latest m collection at history).machine
+  unfolding backup_latest
+  latest-order collection at history = ending-order at _ (λ end clock le over. source-order Latest collection _ (λ s. let rs = layers_in m collection s in
+      found-order m NoSuchBackup (slice_get rs 0) _ o (λ r e. layer-order [] (next_extent collection r rs history end) (last_end rs) clock (le-refl (last_end rs)) le over)))
 
   forget-order : (source : Src) (collection : List ℕ) (start end : Time) → IsInOrder (forget m source collection start end).machine
   unfolding forget
@@ -318,8 +331,9 @@ steps-order worlds m (Delete table keys) o = delete-order m o table keys
 steps-order worlds m (DeleteRange table lo hi) o = range-order m o table lo hi
 steps-order worlds m (Select table at) o = select-order m o table at
 steps-order worlds m (Gc table before) o = collect-order m o table before
-steps-order worlds m (BackupDatabase database collection at) o = backup-order m o database collection at
-steps-order worlds m (BackupTables tables collection at) o = tables-order m o tables collection at
+steps-order worlds m (BackupDatabase database collection at history) o = backup-order m o database collection at history
+steps-order worlds m (BackupTables tables collection at history) o = tables-order m o tables collection at history
+steps-order worlds m (BackupLatest collection at history) o = latest-order m o collection at history
 steps-order worlds m (RestoreDatabase database source collection at new) o = restore-order m o database source collection at new
 steps-order worlds m (Forget source collection start end) o = forget-order m o source collection start end
 steps-order worlds m (ShowBackups collection) o = o

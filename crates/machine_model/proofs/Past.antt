@@ -29,11 +29,12 @@ use Rattle.reply_texts.specs.declared.refusals.Refusal.{Refusal}
 use Rattle.reply_texts.specs.declared.refusals.Refusal.TheVariants.{TickBack, NoSuchBackup, NoSuchLayer, NoSuchTable, NothingToRestore}
 use Rattle.reply_texts.specs.declared.answers.Answer.{Answer}
 use Rattle.reply_texts.specs.declared.answers.Answer.TheVariants.{ClockSet, RangeDeleted}
-use Rattle.command_lang.specs.declared.command.Command.TheVariants.{Cluster, Tick, CreateDatabase, CreateTable, AddColumn, DropColumn, RenameColumn, RenameTable, DropTable, Upsert, Delete, DeleteRange, Select, Gc, BackupDatabase, BackupTables, RestoreDatabase, Forget, ShowBackups}
+use Rattle.command_lang.specs.declared.command.Command.TheVariants.{Cluster, Tick, CreateDatabase, CreateTable, AddColumn, DropColumn, RenameColumn, RenameTable, DropTable, Upsert, Delete, DeleteRange, Select, Gc, BackupDatabase, BackupTables, BackupLatest, RestoreDatabase, Forget, ShowBackups}
+use Rattle.machine_model.specs.declared.extents.Extent.{Extent}
 use Rattle.machine_model.specs.Machine.{Backup, Restore, Machine, Stepped, answered, catalog_of, first_refusal, refusal_if, unless_refused, with_time, drawing, with_found, for_table}
 use Rattle.machine_model.specs.Tables.{tick, create_database, create_table, new_table, with_new_table, alter, drop_table, described, with_descriptor}
 use Rattle.machine_model.specs.TableRows.{adding, upsert, delete, delete_range, select, select_at, collect, raised, with_threshold, extended, with_facts}
-use Rattle.machine_model.specs.Backups.{ending, full_layer, full_backup, absent_refusal, backup_database, ids_named, backup_tables, show_backups, source_among, own_subdirectories, layers_in, with_source, is_between_times, forgetting, forget}
+use Rattle.machine_model.specs.Backups.{ending, layer_record, backup, full_extent, last_full, last_end, next_extent, absent_refusal, backup_database, ids_named, backup_latest, backup_tables, show_backups, source_among, own_subdirectories, layers_in, with_source, is_between_times, forgetting, forget}
 use Rattle.machine_model.specs.Restores.{links_of, time_of, layers_at, with_cover, last_of, chosen_tables, restored_table, restore_chosen, restore_chain, restore_database}
 use Rattle.machine_model.specs.Step.{step}
 use Rattle.machine_model.specs.Refusals.{catalog_refusal}
@@ -275,11 +276,11 @@ collect-later m name g = table-later m name m.clock _ (λ f got.
 
 -- ---- BACKUP, SHOW BACKUPS and FORGET
 
-full-later : (m : Machine) (tests : List (Option Refusal)) (collection : List ℕ) (scope : Scope) (end clock : Time) → time_le m.clock clock ≡ true → IsLater m (full_backup m tests collection scope end clock).machine
-full-later m tests collection scope end clock le = let r = full_layer m collection scope end in
+layer-later : (m : Machine) (tests : List (Option Refusal)) (x : Extent) (last clock : Time) → time_le m.clock clock ≡ true → IsLater m (backup m tests x last clock).machine
+layer-later m tests x last clock le = let r = layer_record m x in
     unless-later m _ _ (record { name = refl; limits = refl; clock = le; tables = past-same m.clock m.history.tables; more = Backup r ∷ []; jobs = refl; layers = λ q has. ⊎_elim (λ old. inl old) (λ new. inr (new-job q new)) (has-append_cases q m.layers (r ∷ []) has) })
   where
-    new-job : (q : LayerRecord) → Has q (full_layer m collection scope end ∷ []) → length m.jobs < q.job
+    new-job : (q : LayerRecord) → Has q (layer_record m x ∷ []) → length m.jobs < q.job
     new-job q (inl is) = subst (λ (x : LayerRecord). length m.jobs < x.job) (sym is) (omega arith)
     new-job q (inr none) = absurd none
 
@@ -287,14 +288,14 @@ ending-later : (m : Machine) (at : Option Time) (change : Time → Time → Step
 ending-later m None change later = drawing-later m (λ t. change t t) (λ t after. later t t (lt-le m.clock t after))
 ending-later m (Some t) change later = unless-later m _ _ (later t m.clock (le-refl m.clock))
 
-backup-later : (m : Machine) (database collection : List ℕ) (at : Option Time) → IsLater m (backup_database m database collection at).machine
+backup-later : (m : Machine) (database collection : List ℕ) (at : Option Time) (history : Bool) → IsLater m (backup_database m database collection at history).machine
 unfolding backup_database
-backup-later m database collection at = ending-later m at _ (full-later m (absent_refusal (catalog_of m) database ∷ []) collection (Database database))
+backup-later m database collection at history = ending-later m at _ (λ end clock. layer-later m (absent_refusal (catalog_of m) database ∷ []) (full_extent collection (Database database) history end) (last_full m collection) clock)
 
-tables-later : (m : Machine) (names : List (List ℕ × List ℕ)) (collection : List ℕ) (at : Option Time) → IsLater m (backup_tables m names collection at).machine
+tables-later : (m : Machine) (names : List (List ℕ × List ℕ)) (collection : List ℕ) (at : Option Time) (history : Bool) → IsLater m (backup_tables m names collection at history).machine
 unfolding backup_tables
-tables-later m names collection at = ending-later m at _ (λ end clock le. full-later m (catalog_refusal (missing_fault (catalog_of m) end names) ∷ catalog_refusal (offline_fault (catalog_of m) end names) ∷ [])
-    collection (Tables (ids_named (schemas_of m.history.tables) names end)) end clock le)
+tables-later m names collection at history = ending-later m at _ (λ end clock. layer-later m (catalog_refusal (missing_fault (catalog_of m) end names) ∷ catalog_refusal (offline_fault (catalog_of m) end names) ∷ [])
+    (full_extent collection (Tables (ids_named (schemas_of m.history.tables) names end)) history end) (last_full m collection) clock)
 
 -- the same, whatever was found
 pub finding-later : (m : Machine) (refusal : Refusal) {X : Type 0} (o : Option X) (change : X → Stepped) → ((x : X) → IsLater m (change x).machine) → IsLater m (with_found m refusal o change).machine
@@ -302,6 +303,11 @@ finding-later m refusal o change later = found-later m refusal o change (λ x is
 
 source-later : (m : Machine) (source : Src) (collection : List ℕ) (change : List ℕ × Time → Stepped) → ((s : List ℕ × Time) → IsLater m (change s).machine) → IsLater m (with_source m source collection change).machine
 source-later m source collection change later = finding-later m NoSuchBackup (source_among source (own_subdirectories m collection)) change later
+
+latest-later : (m : Machine) (collection : List ℕ) (at : Option Time) (history : Bool) → IsLater m (backup_latest m collection at history).machine
+unfolding backup_latest
+latest-later m collection at history = ending-later m at _ (λ end clock le. source-later m Latest collection _ (λ s. let rs = layers_in m collection s in
+    finding-later m NoSuchBackup (slice_get rs 0) _ (λ r. layer-later m [] (next_extent collection r rs history end) (last_end rs) clock le)))
 
 show-later : (m : Machine) (collection : List ℕ) → IsLater m (show_backups m collection).machine
 unfolding show_backups
@@ -367,8 +373,9 @@ steps-later worlds m (Delete table keys) = delete-later m table keys
 steps-later worlds m (DeleteRange table lo hi) = range-later m table lo hi
 steps-later worlds m (Select table at) = select-later m table at
 steps-later worlds m (Gc table before) = collect-later m table before
-steps-later worlds m (BackupDatabase database collection at) = backup-later m database collection at
-steps-later worlds m (BackupTables tables collection at) = tables-later m tables collection at
+steps-later worlds m (BackupDatabase database collection at history) = backup-later m database collection at history
+steps-later worlds m (BackupTables tables collection at history) = tables-later m tables collection at history
+steps-later worlds m (BackupLatest collection at history) = latest-later m collection at history
 steps-later worlds m (RestoreDatabase database source collection at new) = restore-later m database source collection at new
 steps-later worlds m (Forget source collection start end) = forget-later m source collection start end
 steps-later worlds m (ShowBackups collection) = show-later m collection

@@ -2,7 +2,7 @@
 use Rattle.std.proofs.Common.{ℕ, ◌+◌, ◌-◌, ◌<◌, ◌≤◌, ◌^◌, sym, subst, List}
 use Rattle.table_descriptors.specs.declared.changes.Change.TheVariants.{Add, Remove, RenameColumn as Renamed, Rename}
 use Rattle.command_lang.specs.declared.command.Command.{Command}
-use Rattle.command_lang.specs.declared.command.Command.TheVariants.{Cluster, Tick, CreateDatabase, CreateTable, AddColumn, DropColumn, RenameColumn, RenameTable, DropTable, Upsert, Delete, DeleteRange, Select, Gc, BackupDatabase, BackupTables, RestoreDatabase, Forget, ShowBackups}
+use Rattle.command_lang.specs.declared.command.Command.TheVariants.{Cluster, Tick, CreateDatabase, CreateTable, AddColumn, DropColumn, RenameColumn, RenameTable, DropTable, Upsert, Delete, DeleteRange, Select, Gc, BackupDatabase, BackupTables, BackupLatest, RestoreDatabase, Forget, ShowBackups}
 use Rattle.command_lang.specs.Typed.{IsTyped}
 use Rattle.machine_model.specs.Machine.{Limits, Machine, World}
 use Rattle.machine_model.specs.Orders.{IsInOrder}
@@ -13,7 +13,7 @@ use Rattle.machine_model.proofs.Orders.{steps-order}
 use Rattle.machine_model.proofs.Past.{steps-later}
 use Rattle.machine_model.proofs.ProperCommands.{IsTypedChange}
 use Rattle.machine_model.proofs.ProperSteps.{HasProper, keeps-same}
-use Rattle.machine_model.proofs.ProperWalk.{alter-proper, backup-proper, collect-proper, create-proper, database-proper, delete-proper, drop-proper, forget-proper, range-proper, select-proper, tables-proper, tick-proper, upsert-proper}
+use Rattle.machine_model.proofs.ProperWalk.{alter-proper, backup-proper, collect-proper, create-proper, database-proper, delete-proper, drop-proper, forget-proper, latest-proper, range-proper, select-proper, tables-proper, tick-proper, upsert-proper}
 
 step-proper : (worlds : List World) (n : ℕ) (m : Machine) (c : Command) → n < 2 ^ 32 - 2 → HasProper n m → IsInOrder m → m.limits.tables ≤ 4096 → m.limits.events ≤ 1000000 → IsTyped c → IsNoRestore c → HasProper (n + 1) (step worlds m c).machine
 unfolding step IsTypedChange show_backups
@@ -31,8 +31,9 @@ step-proper worlds n m (Delete table keys) s p o f r typed other = delete-proper
 step-proper worlds n m (DeleteRange table lo hi) s p o f r typed other = range-proper n m s p o f r table lo hi typed.1 typed.2
 step-proper worlds n m (Select table at) s p o f r typed other = select-proper n m s p o f r table at
 step-proper worlds n m (Gc table before) s p o f r typed other = collect-proper n m s p o f r table before
-step-proper worlds n m (BackupDatabase database collection at) s p o f r typed other = backup-proper n m s p o f r database collection at
-step-proper worlds n m (BackupTables tables collection at) s p o f r typed other = tables-proper n m s p o f r tables collection at
+step-proper worlds n m (BackupDatabase database collection at history) s p o f r typed other = backup-proper n m s p o f r database collection at history
+step-proper worlds n m (BackupTables tables collection at history) s p o f r typed other = tables-proper n m s p o f r tables collection at history
+step-proper worlds n m (BackupLatest collection at history) s p o f r typed other = latest-proper n m s p o f r collection at history
 step-proper worlds n m (RestoreDatabase database source collection at new) s p o f r typed other = absurd other
 step-proper worlds n m (Forget source collection start end) s p o f r typed other = forget-proper n m s p o f r source collection start end
 step-proper worlds n m (ShowBackups collection) s p o f r typed other = keeps-shown

@@ -34,12 +34,13 @@ use Rattle.script_grammar.specs.declared.backups.Src.{Src}
 use Rattle.table_descriptors.specs.declared.scopes.Scope.{Scope}
 use Rattle.table_descriptors.specs.declared.scopes.Scope.TheVariants.{Database, Tables}
 use Rattle.command_lang.specs.Typed.{AreColumns, AreValues, IsKeyOfColumns, IsName, IsTableName}
+use Rattle.machine_model.specs.declared.extents.Extent.{Extent}
 use Rattle.machine_model.specs.Machine.{Machine, Stepped, answered, catalog_of, first_refusal, for_table, judged, offline_refusal}
 use Rattle.machine_model.specs.Refusals.{catalog_refusal, rows_refusal}
 use Rattle.machine_model.specs.Tables.{alter, create_database, create_table, described, drop_table, new_table, tick, with_descriptor, with_new_table}
 use Rattle.machine_model.specs.TableRows.{adding, collected_refusal, future_refusal, rows_at, collect, delete, delete_range, extended, raised, room_refusal, select, select_at, upsert}
 use Rattle.layer_objects.specs.Objects.{manifest_of}
-use Rattle.machine_model.specs.Backups.{absent_refusal, backup_done, end_refusal, plan_refusal, backup_database, backup_tables, ending, forget, full_backup, full_layer, ids_named, is_between_times, layers_in, own_subdirectories, source_among, with_backup, with_source}
+use Rattle.machine_model.specs.Backups.{absent_refusal, backup, backup_done, end_refusal, plan_refusal, backup_database, backup_latest, backup_tables, ending, forget, full_extent, ids_named, is_between_times, last_end, last_full, layer_record, layers_in, next_extent, own_subdirectories, source_among, with_backup, with_source}
 use Rattle.machine_model.specs.Orders.{IsInOrder}
 use Rattle.machine_model.specs.Proper.{IsProperTable, NoTwo, ShareName}
 use Rattle.machine_model.specs.ProperMachines.{IsTableWithin}
@@ -220,26 +221,31 @@ module _ (n : ℕ) (m : Machine) (small : n < 2 ^ 32 - 2) (p : HasProper n m) (o
 
   -- ---- backups
 
-  full-proper : (tests : List (Option Refusal)) (collection : List ℕ) (scope : Scope) (end clock : Time) → time_le m.clock clock ≡ true → IsTime clock → Keeps n m p (full_backup m tests collection scope end clock)
-  full-proper tests collection scope end clock le time = unless-keeps n m p (first_refusal (tests ++ end_refusal m collection end ∷ plan_refusal m scope end ∷ []))
-      (answered (with_backup m clock (full_layer m collection scope end)) (backup_done (full_layer m collection scope end) (manifest_of m.history.tables (full_layer m collection scope end))))
+  layer-proper : (tests : List (Option Refusal)) (x : Extent) (last clock : Time) → time_le m.clock clock ≡ true → IsTime clock → Keeps n m p (backup m tests x last clock)
+  layer-proper tests x last clock le time = unless-keeps n m p (first_refusal (tests ++ end_refusal x.end last ∷ plan_refusal m x ∷ []))
+      (answered (with_backup m clock (layer_record m x)) (backup_done (layer_record m x) (manifest_of m.history.tables (layer_record m x))))
       (λ e. let q = keeps-clock n m p clock le time in record { history = q.history; tables = q.tables; clock = q.clock })
 
   ending-proper : (at : Option Time) (change : Time → Time → Stepped) → ((end clock : Time) → time_le m.clock clock ≡ true → IsTime clock → Keeps n m p (change end clock)) → Keeps n m p (ending m at change)
   ending-proper None change is = drawing-keeps n m p (λ t. change t t) (λ t after time. is t t (lt-le m.clock t after) time)
   ending-proper (Some t) change is = unless-keeps n m p _ _ (λ e. is t m.clock (le-refl m.clock) p.clock)
 
-  pub backup-proper : (database collection : List ℕ) (at : Option Time) → Keeps n m p (backup_database m database collection at)
+  pub backup-proper : (database collection : List ℕ) (at : Option Time) (history : Bool) → Keeps n m p (backup_database m database collection at history)
   unfolding backup_database
-  backup-proper database collection at = ending-proper at _ (full-proper (absent_refusal (catalog_of m) database ∷ []) collection (Database database))
+  backup-proper database collection at history = ending-proper at _ (λ end clock. layer-proper (absent_refusal (catalog_of m) database ∷ []) (full_extent collection (Database database) history end) (last_full m collection) clock)
 
-  pub tables-proper : (names : List (List ℕ × List ℕ)) (collection : List ℕ) (at : Option Time) → Keeps n m p (backup_tables m names collection at)
+  pub tables-proper : (names : List (List ℕ × List ℕ)) (collection : List ℕ) (at : Option Time) (history : Bool) → Keeps n m p (backup_tables m names collection at history)
   unfolding backup_tables
-  tables-proper names collection at = ending-proper at _ (λ end clock. full-proper (catalog_refusal (missing_fault (catalog_of m) end names) ∷ catalog_refusal (offline_fault (catalog_of m) end names) ∷ [])
-      collection (Tables (ids_named (schemas_of m.history.tables) names end)) end clock)
+  tables-proper names collection at history = ending-proper at _ (λ end clock. layer-proper (catalog_refusal (missing_fault (catalog_of m) end names) ∷ catalog_refusal (offline_fault (catalog_of m) end names) ∷ [])
+      (full_extent collection (Tables (ids_named (schemas_of m.history.tables) names end)) history end) (last_full m collection) clock)
 
   pub source-proper : (source : Src) (collection : List ℕ) (change : List ℕ × Time → Stepped) → ((s : List ℕ × Time) → Keeps n m p (change s)) → Keeps n m p (with_source m source collection change)
   source-proper source collection change is = found-keeps n m p NoSuchBackup (source_among source (own_subdirectories m collection)) change (λ s e. is s)
+
+  pub latest-proper : (collection : List ℕ) (at : Option Time) (history : Bool) → Keeps n m p (backup_latest m collection at history)
+  unfolding backup_latest
+  latest-proper collection at history = ending-proper at _ (λ end clock le time. source-proper Latest collection _ (λ s. let rs = layers_in m collection s in
+      found-keeps n m p NoSuchBackup (slice_get rs 0) _ (λ r e. layer-proper [] (next_extent collection r rs history end) (last_end rs) clock le time)))
 
   pub forget-proper : (source : Src) (collection : List ℕ) (start end : Time) → Keeps n m p (forget m source collection start end)
   unfolding forget

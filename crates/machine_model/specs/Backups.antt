@@ -1,8 +1,8 @@
--- The commands on backups, one definition each. A backup makes a full layer without history; its job is run whole.
-use Rattle.std.specs.Prelude.{ℕ, ◌+◌, ◌-◌, Bool, false, not, ◌&&◌, List, [], ◌∷◌, ◌++◌, length, filter, slice_get, Option, Some, None, option_and_then}
+-- The commands on backups, one definition each. The job of a backup is run whole.
+use Rattle.std.specs.Prelude.{ℕ, ◌+◌, ◌-◌, Bool, not, ◌&&◌, List, [], ◌∷◌, ◌++◌, length, filter, map, slice_get, Option, Some, None, option_and_then}
 use Rattle.std.specs.List.{find, list_any}
 use Rattle.std.specs.Str.{bytes_eq}
-use Rattle.mvcc_keys.specs.Times.{Time, zero_time, time_eq, time_le}
+use Rattle.mvcc_keys.specs.Times.{Time, latest, or_zero, zero_time, time_eq, time_le}
 use Rattle.table_descriptors.specs.declared.scopes.Scope.{Scope}
 use Rattle.table_descriptors.specs.declared.scopes.Scope.TheVariants.{Database, Tables}
 use Rattle.table_descriptors.specs.Descriptors.{Schema}
@@ -11,7 +11,7 @@ use Rattle.history_model.specs.Layers.{LayerRecord}
 use Rattle.schema_catalog.specs.Catalogs.{Schemas, has_database, missing_fault, offline_fault}
 use Rattle.introduced_spans.specs.declared.plans.PlanFault.{PlanFault}
 use Rattle.introduced_spans.specs.declared.plans.PlanFault.TheVariants as plan
-use Rattle.introduced_spans.specs.Spans.{descriptors_of, plan_fault, table_ids}
+use Rattle.introduced_spans.specs.Spans.{descriptors_of, floor_of, plan_fault, table_ids}
 use Rattle.layer_manifest.specs.declared.manifest.Manifest.{Manifest}
 use Rattle.layer_manifest.specs.Manifests.{chunk_count, entry_count}
 use Rattle.layer_objects.specs.Objects.{by_id, manifest_of, name_of_record, table_threshold}
@@ -23,6 +23,7 @@ use Rattle.reply_texts.specs.declared.refusals.Refusal.{Refusal}
 use Rattle.reply_texts.specs.declared.refusals.Refusal.TheVariants.{NoSuchDatabase, NoSuchBackup, NoSuchLayer, EndNotAfter, StartCollected, Collected}
 use Rattle.reply_texts.specs.declared.answers.Answer.{Answer}
 use Rattle.reply_texts.specs.declared.answers.Answer.TheVariants.{Plain, BackupDone, BackupsShown}
+use Rattle.machine_model.specs.declared.extents.Extent.{Extent}
 use Rattle.machine_model.specs.Machine.{Backup, Machine, Stepped, catalog_of, answered, refusal_if, judged, drawing, with_found}
 use Rattle.machine_model.specs.Refusals.{catalog_refusal}
 use Rattle.machine_model.specs.TableRows.{future_refusal}
@@ -39,37 +40,40 @@ ending m (Some t) change = judged m (future_refusal m t ∷ []) (change t m.cloc
 abbrev pub next_job : Machine → ℕ
 next_job m = length m.jobs + 1
 
--- the record of a full backup
-abbrev pub full_layer : Machine → List ℕ → Scope → Time → LayerRecord
-full_layer m collection scope end = record {
-  collection = collection;
+abbrev pub thresholds : Machine → ℕ → Time
+thresholds m = by_id zero_time table_threshold m.history.tables
+
+-- with history the floor isn't before what was collected of the tables that the layer introduces
+abbrev pub floor_over : Machine → Extent → Time
+floor_over m x = floor_of (schemas_of m.history.tables) x.scope x.start x.end x.history (thresholds m)
+
+-- the record of the layer that the next job makes
+abbrev pub layer_record : Machine → Extent → LayerRecord
+layer_record m x = record {
+  collection = x.collection;
   cluster = m.name;
-  full = end;
-  start = zero_time;
-  end = end;
+  full = x.full;
+  start = x.start;
+  end = x.end;
   job = next_job m;
-  floor = zero_time;
-  history = false;
-  scope = scope;
+  floor = floor_over m x;
+  history = x.history;
+  scope = x.scope;
   version = 2;
 }
 
--- the greatest end of a full backup in an own subdirectory of the collection, or zero
-abbrev pub last_full : Machine → List ℕ → Time
-last_full m collection = last_full_of name_of_record collection m.layers
-
--- the end isn't after that
-abbrev pub end_refusal : Machine → List ℕ → Time → Option Refusal
-end_refusal m collection end = refusal_if (time_le end (last_full m collection)) (EndNotAfter end (last_full m collection))
+-- the end isn't after the last one
+abbrev pub end_refusal : Time → Time → Option Refusal
+end_refusal end last = refusal_if (time_le end last) (EndNotAfter end last)
 
 abbrev pub refusal_of_plan : PlanFault → Option Refusal
 refusal_of_plan (plan.StartCollected table at start) = Some (StartCollected table at start)
 refusal_of_plan (plan.Collected table at) = Some (Collected table at)
 refusal_of_plan plan.Memory = None
 
--- what a full layer to the end asks for was collected
-abbrev pub plan_refusal : Machine → Scope → Time → Option Refusal
-plan_refusal m scope end = option_and_then refusal_of_plan (plan_fault (schemas_of m.history.tables) scope zero_time end false (by_id zero_time table_threshold m.history.tables))
+-- what the layer asks for was collected
+abbrev pub plan_refusal : Machine → Extent → Option Refusal
+plan_refusal m x = option_and_then refusal_of_plan (plan_fault (schemas_of m.history.tables) x.scope x.start x.end x.history (thresholds m))
 
 -- the numbers of the layer are those of its manifest
 abbrev pub backup_done : LayerRecord → Manifest → Answer
@@ -78,19 +82,31 @@ backup_done r manifest = BackupDone r.job r.cluster r.full r.start r.end (entry_
 abbrev pub with_backup : Machine → Time → LayerRecord → Machine
 with_backup m clock r = record m { clock = clock; layers = m.layers ++ r ∷ []; jobs = m.jobs ++ Backup r ∷ [] }
 
--- a full backup, where a first list of tests refuses nothing
-abbrev pub full_backup : Machine → List (Option Refusal) → List ℕ → Scope → Time → Time → Stepped
-full_backup m tests collection scope end clock =
-    let r = full_layer m collection scope end in
-    judged m (tests ++ end_refusal m collection end ∷ plan_refusal m scope end ∷ []) (answered (with_backup m clock r) (backup_done r (manifest_of m.history.tables r)))
+-- a backup whose end has to be after the last one, where a first list of tests refuses nothing
+abbrev pub backup : Machine → List (Option Refusal) → Extent → Time → Time → Stepped
+backup m tests x last clock =
+    let r = layer_record m x in
+    judged m (tests ++ end_refusal x.end last ∷ plan_refusal m x ∷ []) (answered (with_backup m clock r) (backup_done r (manifest_of m.history.tables r)))
+
+-- ---- full backups
+
+abbrev pub full_extent : List ℕ → Scope → Bool → Time → Extent
+full_extent collection scope history end = record { collection = collection; full = end; start = zero_time; end = end; history = history; scope = scope }
+
+-- the greatest end of a full backup in an own subdirectory of the collection, or zero
+abbrev pub last_full : Machine → List ℕ → Time
+last_full m collection = last_full_of name_of_record collection m.layers
+
+abbrev pub full_backup : Machine → List (Option Refusal) → List ℕ → Scope → Bool → Time → Time → Stepped
+full_backup m tests collection scope history end clock = backup m tests (full_extent collection scope history end) (last_full m collection) clock
 
 -- the database isn't there
 abbrev pub absent_refusal : Schemas → List ℕ → Option Refusal
 absent_refusal s database = refusal_if (not (has_database s database)) (NoSuchDatabase database)
 
 -- BACKUP DATABASE
-unfoldable pub backup_database : Machine → List ℕ → List ℕ → Option Time → Stepped
-backup_database m database collection at = ending m at (λ end clock. full_backup m (absent_refusal (catalog_of m) database ∷ []) collection (Database database) end clock)
+unfoldable pub backup_database : Machine → List ℕ → List ℕ → Option Time → Bool → Stepped
+backup_database m database collection at history = ending m at (λ end clock. full_backup m (absent_refusal (catalog_of m) database ∷ []) collection (Database database) history end clock)
 
 -- one of the names belongs at t to the table with these descriptors
 abbrev pub has_one_of : List (List ℕ × List ℕ) → Time → List Schema → Bool
@@ -101,10 +117,10 @@ unfoldable pub ids_named : List (List Schema) → List (List ℕ × List ℕ) �
 ids_named tables names t = filter (λ id. has_one_of names t (descriptors_of tables id)) (table_ids tables)
 
 -- BACKUP TABLE: names are looked up as of the end, each before the state of any is asked for
-unfoldable pub backup_tables : Machine → List (List ℕ × List ℕ) → List ℕ → Option Time → Stepped
-backup_tables m names collection at = ending m at (λ end clock.
+unfoldable pub backup_tables : Machine → List (List ℕ × List ℕ) → List ℕ → Option Time → Bool → Stepped
+backup_tables m names collection at history = ending m at (λ end clock.
     full_backup m (catalog_refusal (missing_fault (catalog_of m) end names) ∷ catalog_refusal (offline_fault (catalog_of m) end names) ∷ [])
-    collection (Tables (ids_named (schemas_of m.history.tables) names end)) end clock)
+    collection (Tables (ids_named (schemas_of m.history.tables) names end)) history end clock)
 
 -- ---- SHOW BACKUPS
 
@@ -116,7 +132,7 @@ own_subdirectories m collection = subdirectories_of name_of_record collection m.
 unfoldable pub show_backups : Machine → List ℕ → Stepped
 show_backups m collection = answered m (BackupsShown (own_subdirectories m collection))
 
--- ---- FORGET
+-- ---- subdirectories
 
 abbrev pub is_subdirectory : List ℕ → Time → List ℕ × Time → Bool
 is_subdirectory cluster full s = bytes_eq s.0 cluster && time_eq s.1 full
@@ -133,6 +149,26 @@ with_source m source collection change = with_found m NoSuchBackup (source_among
 -- its layers by start, end, job
 abbrev pub layers_in : Machine → List ℕ → List ℕ × Time → List LayerRecord
 layers_in m collection s = layers_of name_of_record collection s.0 s.1 m.layers
+
+-- ---- BACKUP INTO LATEST
+
+-- the greatest end of some layers, or zero
+abbrev pub last_end : List LayerRecord → Time
+last_end rs = or_zero (latest (map (λ r. r.end) rs))
+
+-- after the layers of a subdirectory, of which this is one: all of them have one scope
+abbrev pub next_extent : List ℕ → LayerRecord → List LayerRecord → Bool → Time → Extent
+next_extent collection r rs history end = record { collection = collection; full = r.full; start = last_end rs; end = end; history = history; scope = r.scope }
+
+-- an increment after some layers: a subdirectory has at least one
+abbrev pub increment_after : Machine → List ℕ → List LayerRecord → Bool → Time → Time → Stepped
+increment_after m collection rs history end clock = with_found m NoSuchBackup (slice_get rs 0) (λ r. backup m [] (next_extent collection r rs history end) (last_end rs) clock)
+
+-- BACKUP INTO LATEST
+unfoldable pub backup_latest : Machine → List ℕ → Option Time → Bool → Stepped
+backup_latest m collection at history = ending m at (λ end clock. with_source m Latest collection (λ s. increment_after m collection (layers_in m collection s) history end clock))
+
+-- ---- FORGET
 
 abbrev pub is_between_times : Time → Time → LayerRecord → Bool
 is_between_times start end r = time_eq r.start start && time_eq r.end end

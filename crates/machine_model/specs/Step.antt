@@ -2,11 +2,11 @@
 use Rattle.std.specs.Prelude.{List}
 use Rattle.table_descriptors.specs.declared.changes.Change.TheVariants.{Add, Remove, RenameColumn as Renamed, Rename}
 use Rattle.command_lang.specs.declared.command.Command.{Command}
-use Rattle.command_lang.specs.declared.command.Command.TheVariants.{Cluster, Tick, CreateDatabase, CreateTable, AddColumn, DropColumn, RenameColumn, RenameTable, DropTable, Upsert, Delete, DeleteRange, Select, Gc, BackupDatabase, BackupTables, RestoreDatabase, Forget, ShowBackups}
+use Rattle.command_lang.specs.declared.command.Command.TheVariants.{Cluster, Tick, CreateDatabase, CreateTable, AddColumn, DropColumn, RenameColumn, RenameTable, DropTable, Upsert, Delete, DeleteRange, Select, Gc, BackupDatabase, BackupTables, BackupLatest, RestoreDatabase, Forget, ShowBackups}
 use Rattle.reply_texts.specs.declared.answers.Answer.TheVariants.{Nothing}
 use Rattle.machine_model.specs.Machine.{World, Machine, Stepped, answered}
 use Rattle.machine_model.specs.Tables.{tick, create_database, create_table, alter, drop_table}
-use Rattle.machine_model.specs.Backups.{backup_database, backup_tables, show_backups, forget}
+use Rattle.machine_model.specs.Backups.{backup_database, backup_latest, backup_tables, show_backups, forget}
 use Rattle.machine_model.specs.Restores.{restore_database}
 use Rattle.machine_model.specs.TableRows.{upsert, delete, delete_range, select, collect}
 
@@ -26,8 +26,9 @@ step worlds m (Delete table keys) = delete m table keys
 step worlds m (DeleteRange table lo hi) = delete_range m table lo hi
 step worlds m (Select table at) = select m table at
 step worlds m (Gc table before) = collect m table before
-step worlds m (BackupDatabase database collection at) = backup_database m database collection at
-step worlds m (BackupTables tables collection at) = backup_tables m tables collection at
+step worlds m (BackupDatabase database collection at history) = backup_database m database collection at history
+step worlds m (BackupTables tables collection at history) = backup_tables m tables collection at history
+step worlds m (BackupLatest collection at history) = backup_latest m collection at history
 step worlds m (RestoreDatabase database source collection at new) = restore_database m database source collection at new
 step worlds m (Forget source collection start end) = forget m source collection start end
 step worlds m (ShowBackups collection) = show_backups m collection
