@@ -1,57 +1,60 @@
--- The tests of BACKUP, and the job of a full layer.
-use Rattle.std.proofs.Common.{◌≡◌, inl, inr, ℕ, ◌+◌, ◌≤◌, ◌^◌, Bool, true, false, List, [], ◌∷◌, length, Option, Some, None, refl, sym, ap, subst, ◌∙◌, arith, Result, Err, IsErrAnd}
-use Rattle.std.specs.Prelude.{IfErr, option_and_then}
+-- The tests of BACKUP, and the job of a layer.
+use Rattle.std.proofs.Common.{◌≡◌, inl, inr, ⊎_elim, ℕ, ◌+◌, ◌-◌, ◌<◌, ◌≤◌, ◌^◌, nat_lt, Bool, true, false, true≢false, List, [], ◌∷◌, map, filter, length, slice_get, option_map, unwrap_or, Option, Some, None, refl, sym, ap, subst, ◌∙◌, arith, Result, Err, IsErrAnd}
+use Rattle.std.specs.Prelude.{IfErr, if◌then◌else◌, option_and_then, option_to_list}
 use Rattle.std.specs.List.{AllByRecursion}
-use Rattle.std.proofs.lemmas.Bool.{cases_Bool}
-use Rattle.std.proofs.lemmas.Bool.Decides.{nat_tests}
 use Rattle.std.proofs.lemmas.List.{length-map}
+use Rattle.std.proofs.lemmas.Option.{slice_get-map}
 use Rattle.std.proofs.lemmas.Result.{err_from_is_err_and}
-use Rattle.mvcc_keys.specs.Times.{Time, time_le, time_lt, zero_time}
+use Rattle.mvcc_keys.specs.Times.{IsTime, Time, time_le, time_lt, zero_time}
 use Rattle.table_descriptors.specs.declared.scopes.Scope.{Scope}
 use Rattle.table_descriptors.specs.Descriptors.{IsProperSchema, Schema}
 use Rattle.list_laws.specs.Members.{Has}
-use Rattle.mvcc_keys.proofs.TimeOrder.{le-lt-lt, zero-le}
+use Rattle.mvcc_keys.proofs.TimeOrder.{le-lt-lt, le-refl, le-trans, lt-le}
+use Rattle.range_tombstones.specs.Intervals.{is_between}
+use Rattle.range_tombstones.specs.declared.upto.Upto.TheVariants.{At}
 use Rattle.history_model.specs.Rows.{RowFact}
-use Rattle.history_model.specs.Histories.{Table, schemas_of}
+use Rattle.history_model.specs.Histories.{Table, in_force, schemas_of}
+use Rattle.history_model.specs.Layers.{LayerRecord}
 use Rattle.schema_catalog.specs.Catalogs.{Schemas}
 use Rattle.row_codec.specs.declared.rows.Kind.{Kind}
 use Rattle.table_rows.specs.RowTables.{IsRowFact}
 use Rattle.introduced_spans.specs.declared.plans.LayerPlan.{LayerPlan}
 use Rattle.introduced_spans.specs.declared.plans.PlanFault.{PlanFault}
 use Rattle.introduced_spans.specs.declared.plans.PlanFault.TheVariants as plan
-use Rattle.introduced_spans.specs.Spans.{FaultIs, layer_plan, plan_fault, span_of}
+use Rattle.introduced_spans.specs.declared.plans.TablePlan.{TablePlan}
+use Rattle.introduced_spans.specs.Spans.{FaultIs, descriptors_of, floor_of, layer_descriptors, layer_plan, plan_fault, span_of}
 use Rattle.layer_manifest.specs.declared.manifest.TablePart.{TablePart}
-use Rattle.layer_manifest.specs.Manifests.{IsProperScope}
 use Rattle.layer_model.specs.declared.names.LayerName.{LayerName}
 use Rattle.layer_model.specs.Names.{IsLayerName}
 use Rattle.backup_job.specs.Jobs.{Job, started}
-use Rattle.layer_objects.specs.Objects.{by_id, described, name_of_record, plan_of, table_facts, table_kinds, table_threshold}
+use Rattle.layer_objects.specs.Contents.{part_of}
+use Rattle.layer_objects.specs.Objects.{bare, by_id, described, name_of_record, plan_of, table_facts, table_kinds, table_threshold}
 use Rattle.backup_job.specs.Jobs.{IsStillKept}
 use Rattle.backup_job.specs.Records.{job_of}
 use Rattle.backup_job.proofs.Going.{jobs-write}
 use Rattle.introduced_spans.specs.PlanLaws.{IsKept}
 use Rattle.introduced_spans.proofs.Standing.{plan-stands}
-use Rattle.list_laws.proofs.Members.{all-weaker}
+use Rattle.list_laws.proofs.Members.{all-weaker, filter-has, has-append_cases}
 use Rattle.table_rows.specs.RowTables.{bytes_of}
 use Rattle.layer_objects.specs.Objects.{rows_of}
-use Rattle.layer_objects.specs.Storable.{AreStorable}
-use Rattle.cluster_core.specs.FullLayers.{IsFull}
-use Rattle.cluster_core.proofs.FullLayers.{full-record}
-use Rattle.layer_objects.proofs.Writable.{layers-written, now-listed}
+use Rattle.layer_objects.specs.Storable.{AreListable, AreStorable, IsRecord}
+use Rattle.layer_objects.proofs.Writable.{layers-written}
 use Rattle.layer_book.specs.Books.{name_in}
 use Rattle.layer_book.specs.Subdirectories.{last_full_of}
 use Rattle.layer_book.proofs.Carried.{last_full_map}
 use Rattle.reply_texts.specs.declared.refusals.Refusal.{Refusal}
-use Rattle.reply_texts.specs.declared.refusals.Refusal.TheVariants.{EndNotAfter}
-use Rattle.machine_model.specs.Machine.{first_refusal, refusal_if}
+use Rattle.machine_model.specs.Machine.{first_refusal}
 use Rattle.machine_model.specs.Machine.{Machine}
-use Rattle.machine_model.specs.Backups.{end_refusal, full_layer, last_full, plan_refusal, refusal_of_plan}
+use Rattle.machine_model.specs.declared.extents.Extent.{Extent}
+use Rattle.machine_model.specs.Backups.{end_refusal, floor_over, last_full, layer_record, plan_refusal, refusal_of_plan, thresholds}
+use Rattle.machine_model.proofs.Passing.{end-after, first-passed, floor-from, floor-within}
 use Rattle.cluster_core.specs.declared.halts.Halt.{Halt}
 use Rattle.cluster_core.specs.declared.halts.Halt.TheVariants.{Refused, Disk, Memory}
 use Rattle.cluster_core.specs.ClusterView.{ClusterState, record_of}
 use Rattle.cluster_core.specs.Halting.{halt_of}
 use Rattle.cluster_core.specs.Standing.{Keeps, RefusedBy, machine_of}
-use Rattle.cluster_core.specs.Backing.{IsFullJob, layer_refusal}
+use Rattle.cluster_core.specs.Backing.{IsBackupJob, IsNext, layer_refusal}
+use Rattle.cluster_core.proofs.Kept.{in_force-has}
 use Rattle.cluster_core.proofs.Tables.{by_id-at}
 
 -- ---- tests
@@ -156,6 +159,11 @@ unfoldable AreProper t = AllByRecursion IsProperSchema t.descriptors
 
 AreFew : TablePart → Type 0
 unfoldable AreFew t = length t.descriptors < 2 ^ 64
+
+option-has : {X : Type 0} (o : Option X) (x : X) → Has x (option_to_list o) → o ≡ Some x
+option-has None x none = absurd none
+option-has (Some y) x (inl is) = ap Some (sym is)
+option-has (Some y) x (inr none) = absurd none
 
 -- what a layer lists of a table are its descriptors
 listed-has : (history : Bool) (floor end : Time) (ds : List Schema) (d : Schema) → Has d (layer_descriptors history floor end ds) → Has d ds
