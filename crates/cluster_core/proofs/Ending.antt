@@ -76,6 +76,11 @@ ending-halted c (Some t) change r e is fault v only m to may =
     (halted-runs c m s to v e (future_refusal m t) (subst (λ (k : Time). RefusedBy e (refusal_if (time_lt k t) (Future k))) (sym (clock-is c m may.stands)) fault)
     (λ refusal by. stops m (future_refusal m t) [] (change m t m.clock) refusal by) only may.stands may.ready)
 
+-- a command that is another one on every machine for which the cluster stands does what that one does
+pub runs-by : (c new : ClusterState) (s t : Machine → Stepped) (r : Result Answer Halt) (a b : View) → ((m : Machine) → StandsFor c m → t m ≡ s m) → ((m to : Machine) → MayStep c m (s m) to a → Runs new (s m) to r a b)
+    → (m to : Machine) → MayStep c m (t m) to a → Runs new (t m) to r a b
+runs-by c new s t r a b is runs m to may = let e = is m may.stands in runs-as new (s m) (t m) to r a b (sym e) (runs m to (may-as c m (t m) (s m) to a e may))
+
 -- ---- tests before those of the layer
 
 module _ (m : Machine) (collection : List ℕ) (scope : Scope) (history : Bool) (end clock : Time) where

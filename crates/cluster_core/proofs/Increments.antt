@@ -1,5 +1,5 @@
 -- Where a layer goes on: after the last full backup, or after the layers of a subdirectory.
-use Rattle.std.proofs.Common.{◌≡◌, inl, inr, ℕ, ◌-◌, Bool, true, false, List, [], ◌∷◌, map, filter, length, Option, Some, None, slice_get, option_map, refl, sym, ap, subst, ◌∙◌}
+use Rattle.std.proofs.Common.{◌≡◌, inl, inr, ℕ, ◌-◌, Bool, true, false, List, [], ◌∷◌, map, filter, length, Option, Some, None, slice_get, option_map, refl, sym, ap, ap₂, subst, ◌∙◌}
 use Rattle.std.specs.List.{fold}
 use Rattle.std.proofs.lemmas.List.{length-map}
 use Rattle.std.proofs.lemmas.Option.{slice_get-map}
@@ -68,6 +68,11 @@ no-later-full : (book : Book) (collection : List ℕ) (r : LayerRecord) → Has 
 no-later-full book collection r has is =
     subst (λ (t : Time). time_le r.full t ≡ true) (last_full_map record_of name_of_record collection book.layers)
     (last-greatest name_of_record collection (map record_of book.layers) r has ((bytes_eq-Decides r.collection collection).1 is))
+
+-- the same place and span, by the name and the start
+pub same-extent : (collection other : List ℕ) (full start begin end : Time) (history : Bool) (scope : Scope) → other ≡ collection → begin ≡ start
+    → record { collection = other; full = full; start = begin; end = end; history = history; scope = scope } ≡ (record { collection = collection; full = full; start = start; end = end; history = history; scope = scope } : Extent)
+same-extent collection other full start begin end history scope named from = ap₂ (λ (n : List ℕ) (t : Time). record { collection = n; full = full; start = t; end = end; history = history; scope = scope }) named from
 
 pub full-next : (collection : List ℕ) (scope : Scope) (history : Bool) (end last : Time) (x : Extent) → x ≡ full_extent collection scope history end → IsProperScope scope → IsNext x last
 full-next collection scope history end last x is proper = subst (λ (y : Extent). IsNext y last) (sym is) (record { scope = proper; from = zero-le last; full = inl refl })

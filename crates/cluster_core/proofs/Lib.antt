@@ -14,6 +14,7 @@ pub mod Increments
 pub mod BackingUp
 pub mod Sources
 pub mod Ending
+pub mod Latest
 pub mod Forgetting
 pub mod Here
 pub mod Replying

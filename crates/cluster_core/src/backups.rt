@@ -416,7 +416,8 @@ impl Cluster {
         let (end, clock) = times;
         let last = last_end(self.alloc, &layers)?;
         match layers.pop() {
-            Some((layer, Manifest { scope, .. })) => {
+            Some((layer, m)) => {
+                let Manifest { scope, .. } = m;
                 let extent = Extent {
                     collection: collection.copy(self.alloc)?,
                     full: layer.full,
