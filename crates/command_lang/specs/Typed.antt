@@ -10,7 +10,7 @@ use Rattle.table_descriptors.specs.Names.{is_name}
 use Rattle.script_grammar.specs.declared.backups.Src.{Src}
 use Rattle.script_grammar.specs.declared.backups.Src.TheVariants.{Latest, Named}
 use Rattle.command_lang.specs.declared.command.Command.{Command}
-use Rattle.command_lang.specs.declared.command.Command.TheVariants.{Cluster, Tick, CreateDatabase, CreateTable, AddColumn, DropColumn, RenameColumn, RenameTable, DropTable, Upsert, Delete, DeleteRange, Select, Gc, BackupDatabase, BackupTables, RestoreDatabase, Forget, ShowBackups}
+use Rattle.command_lang.specs.declared.command.Command.TheVariants.{Cluster, Tick, CreateDatabase, CreateTable, AddColumn, DropColumn, RenameColumn, RenameTable, DropTable, Upsert, Delete, DeleteRange, Select, Gc, BackupDatabase, BackupTables, BackupLatest, RestoreDatabase, Forget, ShowBackups}
 use Rattle.command_lang.specs.Lines.{Reads, reading}
 
 abbrev pub IsName : List ℕ → Type 0
@@ -55,8 +55,9 @@ IsTyped (Delete table keys) = IsTableName table × AllByRecursion AreValues keys
 IsTyped (DeleteRange table lo hi) = IsTableName table × AreValues lo × AreValues hi
 IsTyped (Select table at) = IsTableName table × IfGiven IsTime at
 IsTyped (Gc table before) = IsTableName table × IsTime before
-IsTyped (BackupDatabase database collection at) = IsName database × IsName collection × IfGiven IsTime at
-IsTyped (BackupTables tables collection at) = AllByRecursion IsTableName tables × IsName collection × IfGiven IsTime at
+IsTyped (BackupDatabase database collection at history) = IsName database × IsName collection × IfGiven IsTime at
+IsTyped (BackupTables tables collection at history) = AllByRecursion IsTableName tables × IsName collection × IfGiven IsTime at
+IsTyped (BackupLatest collection at history) = IsName collection × IfGiven IsTime at
 IsTyped (RestoreDatabase database source collection at new) = IsName database × IsSource source × IsName collection × IfGiven IsTime at × IfGiven IsName new
 IsTyped (Forget source collection start end) = IsSource source × IsName collection × IsTime start × IsTime end
 IsTyped (ShowBackups collection) = IsName collection

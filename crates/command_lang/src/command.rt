@@ -72,11 +72,19 @@ pub enum Command {
         database: Name,
         collection: Name,
         at: Option<Hlc>,
+        history: bool,
     },
     BackupTables {
         tables: Items<Tbl>,
         collection: Name,
         at: Option<Hlc>,
+        history: bool,
+    },
+    /// A further layer on the newest full backup of a collection.
+    BackupLatest {
+        collection: Name,
+        at: Option<Hlc>,
+        history: bool,
     },
     RestoreDatabase {
         database: Name,
