@@ -1,5 +1,5 @@
 //! The forms of backups and restores, and the commands that they make.
-ghost use Rattle.std.specs.Prelude.{◌≡◌, false, []};
+ghost use Rattle.std.specs.Prelude.{◌≡◌, []};
 ghost use Rattle.script_grammar.specs.Grammar.{Gives, ◌making◌};
 ghost use Rattle.command_lang.specs.declared.command.Command.TheVariants.{BackupDatabase, BackupTables, BackupLatest, RestoreDatabase, Forget, ShowBackups};
 ghost use Rattle.command_lang.specs.Forms.{backup_database, backup_tables, backup_latest, restore_with, restore_at, restore_database, forget_to, forget_layer, forget, show_backups, layer_command};
