@@ -154,10 +154,10 @@ layer-form m x last next passed name floor =
 
 -- ---- descriptors
 
-unfoldable AreProper : TablePart → Type 0
+unfoldable pub AreProper : TablePart → Type 0
 AreProper t = AllByRecursion IsProperSchema t.descriptors
 
-unfoldable AreFew : TablePart → Type 0
+unfoldable pub AreFew : TablePart → Type 0
 AreFew t = length t.descriptors < 2 ^ 64
 
 option-has : {X : Type 0} (o : Option X) (x : X) → Has x (option_to_list o) → o ≡ Some x

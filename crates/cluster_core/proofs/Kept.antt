@@ -179,13 +179,13 @@ keeps-described c at tables i t d e k got lt has id kinds columns on =
       keyed = λ x y hx hy. as-first x hx ∙ sym (as-first y hy);
     })
   where
-    -- each has the key columns of the one that is changed
-    as-first : (x : Schema) → Has x (t.descriptors ++ e ∷ []) → x.key_columns ≡ d.key_columns
-    as-first x is = elim (has-append_cases x t.descriptors (e ∷ []) is) [ inl old ↦ (k.orderly i t got).keyed x d old has | inr new ↦ as-new x new ]
-
     as-new : (x : Schema) → Has x (e ∷ []) → x.key_columns ≡ d.key_columns
     as-new x (inl is) = ap (λ (y : Schema). y.key_columns) is ∙ columns
     as-new x (inr none) = absurd none
+
+    -- each has the key columns of the one that is changed
+    as-first : (x : Schema) → Has x (t.descriptors ++ e ∷ []) → x.key_columns ≡ d.key_columns
+    as-first x is = elim (has-append_cases x t.descriptors (e ∷ []) is) [ inl old ↦ (k.orderly i t got).keyed x d old has | inr new ↦ as-new x new ]
 
     now : (x : Schema) → Has x (e ∷ []) → time_le x.modified at ≡ true
     now x (inl is) = subst (λ (y : Schema). time_le y.modified at ≡ true) (sym is) (subst (λ (y : Time). time_le y at ≡ true) (sym on) (le-refl at))

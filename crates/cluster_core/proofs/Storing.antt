@@ -249,7 +249,7 @@ module _ (c : ClusterState) (tables : List Table) (k : Keeps c tables) (b : HasB
   }))
 
   none-written : written job ≡ 0
-  none-written = ap written j.is ∙ bare_count (described tables) false (plan_of tables made-record).floor end (plan_of tables made-record).tables
+  none-written = ap written j.is ∙ bare_count (described tables) extent.history (plan_of tables made-record).floor extent.end (plan_of tables made-record).tables
 
   -- its layer over the tables at the end
   pub final-of : objects_of to.history.tables made-record ≡ new-layer
