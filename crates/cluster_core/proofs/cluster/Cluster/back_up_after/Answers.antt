@@ -1,5 +1,4 @@
 use Rattle.std.proofs.Common.{[], map, ◌<◌, true≢false, Some, refl, sym, ap, subst, ◌∙◌, List}
-use Rattle.history_model.specs.Layers.{LayerRecord}
 use Rattle.layer_manifest.specs.declared.manifest.Manifest.{Manifest}
 use Rattle.layer_model.specs.declared.names.LayerName.{LayerName}
 use Rattle.script_grammar.specs.declared.backups.Src.TheVariants.{Latest}
