@@ -9,13 +9,15 @@ use Rattle.mvcc_keys.specs.Times.{Time, time_eq, time_le, time_lt, zero_time}
 use Rattle.history_model.specs.Histories.{Table}
 use Rattle.history_model.specs.Layers as records
 use Rattle.list_laws.specs.Members.{Has}
-use Rattle.list_laws.proofs.Members.{AllByRecursion-has, filter-has, filter-passes}
+use Rattle.list_laws.proofs.Members.{AllByRecursion-has, filter-has, filter-passes, has-AllByRecursion}
 use Rattle.list_laws.proofs.Options.{map-some, some-is}
 use Rattle.mvcc_keys.proofs.TimeOrder.{eq-is}
 use Rattle.fact_model.proofs.Orders.{ordered-has}
 use Rattle.layer_manifest.specs.declared.manifest.Manifest.{Manifest}
+use Rattle.layer_manifest.specs.Manifests.{IsProperManifest}
 use Rattle.layer_model.specs.declared.names.LayerName.{LayerName}
 use Rattle.layer_objects.specs.Objects.{name_of_record}
+use Rattle.stored_chunks.specs.Parts.{AreProperLayers}
 use Rattle.layer_chains.specs.Chains.{AreChainFrom, IsChainTo, Serves}
 use Rattle.layer_book.specs.Books.{name_in}
 use Rattle.layer_book.specs.Subdirectories.{is_in, layers_of, place_cmp, subdirectories_of}
@@ -222,3 +224,10 @@ module _ (c : ClusterState) (tables : List Table) (b : HasBackups c tables) wher
             from-own c tables b source collection found.layers found.from p (got-has found.layers place.0 p place.2)));
         chain = subst (IsChainTo x.time) (at-map record_of found.layers found.is.places ∙ ap (map record_of) (sym found.is.are)) (cover-chain (map record_of found.layers) x.time found.is.places found.is.cover);
       }
+
+  -- an own layer of a chain is in the book
+  pub own-layer : (x : Chain) → IsOwnChain c.book x → (p : LayerName × Manifest) → Has p x.layers.items → Has p c.book.layers
+  own-layer x chain p has = (has-AllByRecursion (IsOwnLayer c.book chain.collection chain.full) p x.layers.items chain.layers has).own
+
+  pub own-proper : (x : Chain) → IsOwnChain c.book x → AreProperLayers x.layers.items
+  own-proper x chain = AllByRecursion-has (λ (p : LayerName × Manifest). IsProperManifest p.1) x.layers.items (λ p has. (b.layers p (own-layer x chain p has)).proper)
