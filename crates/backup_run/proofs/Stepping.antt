@@ -8,7 +8,7 @@ use Rattle.outside_world.proofs.Runs.{only_less, only_none, only_then, then_call
 use Rattle.reply_texts.specs.declared.replies.Reply.{Reply}
 use Rattle.reply_texts.specs.declared.replies.Response.{Response}
 use Rattle.command_lang.specs.declared.command.Command.{Command}
-use Rattle.command_lang.specs.declared.command.Command.TheVariants.{Cluster, Tick, CreateDatabase, CreateTable, AddColumn, DropColumn, RenameColumn, RenameTable, DropTable, Upsert, Delete, DeleteRange, Select, Gc, BackupDatabase, BackupTables, RestoreDatabase, Forget, ShowBackups}
+use Rattle.command_lang.specs.declared.command.Command.TheVariants.{Cluster, Tick, CreateDatabase, CreateTable, AddColumn, DropColumn, RenameColumn, RenameTable, DropTable, Upsert, Delete, DeleteRange, Select, Gc, BackupDatabase, BackupTables, BackupLatest, RestoreDatabase, Forget, ShowBackups}
 use Rattle.list_laws.specs.Members.{Has}
 use Rattle.history_model.specs.Layers.{LayerRecord}
 use Rattle.layer_model.specs.Names.{IsOwnName, NamesObject}
@@ -88,8 +88,9 @@ not_first worlds (Delete table keys) other = refl
 not_first worlds (DeleteRange table lo hi) other = refl
 not_first worlds (Select table at) other = refl
 not_first worlds (Gc table before) other = refl
-not_first worlds (BackupDatabase database collection at) other = refl
-not_first worlds (BackupTables tables collection at) other = refl
+not_first worlds (BackupDatabase database collection at history) other = refl
+not_first worlds (BackupTables tables collection at history) other = refl
+not_first worlds (BackupLatest collection at history) other = refl
 not_first worlds (RestoreDatabase database source collection at new) other = refl
 not_first worlds (Forget source collection start end) other = refl
 not_first worlds (ShowBackups collection) other = refl

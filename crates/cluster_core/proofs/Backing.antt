@@ -1,57 +1,60 @@
--- The tests of BACKUP, and the job of a full layer.
-use Rattle.std.proofs.Common.{◌≡◌, inl, inr, ℕ, ◌+◌, ◌≤◌, ◌^◌, Bool, true, false, List, [], ◌∷◌, length, Option, Some, None, refl, sym, ap, subst, ◌∙◌, arith, Result, Err, IsErrAnd}
-use Rattle.std.specs.Prelude.{IfErr, option_and_then}
+-- The tests of BACKUP, and the job of a layer.
+use Rattle.std.proofs.Common.{◌≡◌, inl, inr, ⊎_elim, ℕ, ◌+◌, ◌-◌, ◌<◌, ◌≤◌, ◌^◌, nat_lt, Bool, true, false, true≢false, List, [], ◌∷◌, map, filter, length, slice_get, option_map, unwrap_or, Option, Some, None, refl, sym, ap, subst, ◌∙◌, arith, Result, Err, IsErrAnd}
+use Rattle.std.specs.Prelude.{IfErr, if◌then◌else◌, option_and_then, option_to_list}
 use Rattle.std.specs.List.{AllByRecursion}
-use Rattle.std.proofs.lemmas.Bool.{cases_Bool}
-use Rattle.std.proofs.lemmas.Bool.Decides.{nat_tests}
 use Rattle.std.proofs.lemmas.List.{length-map}
+use Rattle.std.proofs.lemmas.Option.{slice_get-map}
 use Rattle.std.proofs.lemmas.Result.{err_from_is_err_and}
-use Rattle.mvcc_keys.specs.Times.{Time, time_le, time_lt, zero_time}
+use Rattle.mvcc_keys.specs.Times.{IsTime, Time, time_le, time_lt, zero_time}
 use Rattle.table_descriptors.specs.declared.scopes.Scope.{Scope}
 use Rattle.table_descriptors.specs.Descriptors.{IsProperSchema, Schema}
 use Rattle.list_laws.specs.Members.{Has}
-use Rattle.mvcc_keys.proofs.TimeOrder.{le-lt-lt, zero-le}
+use Rattle.mvcc_keys.proofs.TimeOrder.{le-lt-lt, le-refl, le-trans, lt-le}
+use Rattle.range_tombstones.specs.Intervals.{is_between}
+use Rattle.range_tombstones.specs.declared.upto.Upto.TheVariants.{At}
 use Rattle.history_model.specs.Rows.{RowFact}
-use Rattle.history_model.specs.Histories.{Table, schemas_of}
+use Rattle.history_model.specs.Histories.{Table, in_force, schemas_of}
+use Rattle.history_model.specs.Layers.{LayerRecord}
 use Rattle.schema_catalog.specs.Catalogs.{Schemas}
 use Rattle.row_codec.specs.declared.rows.Kind.{Kind}
 use Rattle.table_rows.specs.RowTables.{IsRowFact}
 use Rattle.introduced_spans.specs.declared.plans.LayerPlan.{LayerPlan}
 use Rattle.introduced_spans.specs.declared.plans.PlanFault.{PlanFault}
 use Rattle.introduced_spans.specs.declared.plans.PlanFault.TheVariants as plan
-use Rattle.introduced_spans.specs.Spans.{FaultIs, layer_plan, plan_fault, span_of}
+use Rattle.introduced_spans.specs.declared.plans.TablePlan.{TablePlan}
+use Rattle.introduced_spans.specs.Spans.{FaultIs, descriptors_of, floor_of, layer_descriptors, layer_plan, plan_fault, span_of}
 use Rattle.layer_manifest.specs.declared.manifest.TablePart.{TablePart}
-use Rattle.layer_manifest.specs.Manifests.{IsProperScope}
 use Rattle.layer_model.specs.declared.names.LayerName.{LayerName}
 use Rattle.layer_model.specs.Names.{IsLayerName}
 use Rattle.backup_job.specs.Jobs.{Job, started}
-use Rattle.layer_objects.specs.Objects.{by_id, described, name_of_record, plan_of, table_facts, table_kinds, table_threshold}
+use Rattle.layer_objects.specs.Contents.{part_of}
+use Rattle.layer_objects.specs.Objects.{bare, by_id, described, name_of_record, plan_of, table_facts, table_kinds, table_threshold}
 use Rattle.backup_job.specs.Jobs.{IsStillKept}
 use Rattle.backup_job.specs.Records.{job_of}
 use Rattle.backup_job.proofs.Going.{jobs-write}
 use Rattle.introduced_spans.specs.PlanLaws.{IsKept}
 use Rattle.introduced_spans.proofs.Standing.{plan-stands}
-use Rattle.list_laws.proofs.Members.{all-weaker}
+use Rattle.list_laws.proofs.Members.{all-weaker, filter-has, has-append_cases}
 use Rattle.table_rows.specs.RowTables.{bytes_of}
 use Rattle.layer_objects.specs.Objects.{rows_of}
-use Rattle.layer_objects.specs.Storable.{AreStorable}
-use Rattle.cluster_core.specs.FullLayers.{IsFull}
-use Rattle.cluster_core.proofs.FullLayers.{full-record}
-use Rattle.layer_objects.proofs.Writable.{layers-written, now-listed}
+use Rattle.layer_objects.specs.Storable.{AreListable, AreStorable, IsRecord}
+use Rattle.layer_objects.proofs.Writable.{layers-written}
 use Rattle.layer_book.specs.Books.{name_in}
 use Rattle.layer_book.specs.Subdirectories.{last_full_of}
 use Rattle.layer_book.proofs.Carried.{last_full_map}
 use Rattle.reply_texts.specs.declared.refusals.Refusal.{Refusal}
-use Rattle.reply_texts.specs.declared.refusals.Refusal.TheVariants.{EndNotAfter}
-use Rattle.machine_model.specs.Machine.{first_refusal, refusal_if}
+use Rattle.machine_model.specs.Machine.{first_refusal}
 use Rattle.machine_model.specs.Machine.{Machine}
-use Rattle.machine_model.specs.Backups.{end_refusal, full_layer, last_full, plan_refusal, refusal_of_plan}
+use Rattle.machine_model.specs.declared.extents.Extent.{Extent}
+use Rattle.machine_model.specs.Backups.{end_refusal, floor_over, last_full, layer_record, plan_refusal, refusal_of_plan, thresholds}
+use Rattle.machine_model.proofs.Passing.{end-after, first-passed, floor-from, floor-within}
 use Rattle.cluster_core.specs.declared.halts.Halt.{Halt}
 use Rattle.cluster_core.specs.declared.halts.Halt.TheVariants.{Refused, Disk, Memory}
 use Rattle.cluster_core.specs.ClusterView.{ClusterState, record_of}
 use Rattle.cluster_core.specs.Halting.{halt_of}
 use Rattle.cluster_core.specs.Standing.{Keeps, RefusedBy, machine_of}
-use Rattle.cluster_core.specs.Backing.{IsFullJob, layer_refusal}
+use Rattle.cluster_core.specs.Backing.{IsBackupJob, IsNext, layer_refusal}
+use Rattle.cluster_core.proofs.Kept.{in_force-has}
 use Rattle.cluster_core.proofs.Tables.{by_id-at}
 
 -- ---- tests
@@ -70,24 +73,11 @@ then-refused e passed test none is = rw none (first-refused e test [] is)
 pub both-passed : (a b : Option Refusal) → a ≡ None → b ≡ None → first_refusal (a ∷ b ∷ []) ≡ None
 both-passed a b x y = rw (x, y) refl
 
-pub first-passed : (a : Option Refusal) (tests : List (Option Refusal)) → first_refusal (a ∷ tests) ≡ None → (a ≡ None) × (first_refusal tests ≡ None)
-first-passed None tests e = (refl, e)
-first-passed (Some refusal) tests e = cc e
-
 -- ---- the end
 
 -- the last full backup of the book is that of the machine
 pub last-is : (c : ClusterState) (tables : List Table) (collection : List ℕ) → last_full (machine_of c tables) collection ≡ last_full_of name_in collection c.book.layers
 last-is c tables collection = last_full_map record_of name_of_record collection c.book.layers
-
-pub end-is : (c : ClusterState) (tables : List Table) (collection : List ℕ) (end last : Time) → last ≡ last_full_of name_in collection c.book.layers → refusal_if (time_le end last) (EndNotAfter end last) ≡ end_refusal (machine_of c tables) collection end
-end-is c tables collection end last is = ap (λ (t : Time). refusal_if (time_le end t) (EndNotAfter end t)) (is ∙ sym (last-is c tables collection))
-
-not-le : (s t : Time) (r : Refusal) → refusal_if (time_le s t) r ≡ None → time_lt t s ≡ true
-not-le s t r none = elim (cases_Bool (time_le s t)) [
-  | inl le ↦ absurd (let no : Some r ≡ None = rw le at none in cc no)
-  | inr gt ↦ grind (arith, nat_tests, gt)
-]
 
 -- ---- the plan
 
@@ -96,19 +86,19 @@ by_plan (plan.StartCollected table at start) fault p = ap (option_and_then refus
 by_plan (plan.Collected table at) fault p = ap (option_and_then refusal_of_plan) p
 by_plan plan.Memory fault p = tt
 
-module _ (c : ClusterState) (tables : List Table) (k : Keeps c tables) (scope : Scope) (start end : Time) (first : start ≡ zero_time) (threshold : ℕ → Time) (are : threshold ≡ by_id zero_time table_threshold tables) where
-  pub fault-is : plan_fault (schemas_of tables) scope zero_time end false (by_id zero_time table_threshold tables) ≡ plan_fault c.schemas.tables scope start end false threshold
-  fault-is = ap (λ (ts : List (List Schema)). plan_fault ts scope zero_time end false (by_id zero_time table_threshold tables)) k.schemas ∙ (ap (plan_fault c.schemas.tables scope zero_time end false) (sym are) ∙ ap (λ (s : Time). plan_fault c.schemas.tables scope s end false threshold) (sym first))
+module _ (c : ClusterState) (tables : List Table) (k : Keeps c tables) (x : Extent) (threshold : ℕ → Time) (are : threshold ≡ by_id zero_time table_threshold tables) where
+  pub fault-is : plan_fault (schemas_of tables) x.scope x.start x.end x.history (by_id zero_time table_threshold tables) ≡ plan_fault c.schemas.tables x.scope x.start x.end x.history threshold
+  fault-is = ap (λ (ts : List (List Schema)). plan_fault ts x.scope x.start x.end x.history (by_id zero_time table_threshold tables)) k.schemas ∙ ap (plan_fault c.schemas.tables x.scope x.start x.end x.history) (sym are)
 
-  pub plan-refused : (e : PlanFault) → FaultIs e (plan_fault c.schemas.tables scope start end false threshold) → RefusedBy (halt_of (refusal_of_plan e)) (plan_refusal (machine_of c tables) scope end)
+  pub plan-refused : (e : PlanFault) → FaultIs e (plan_fault c.schemas.tables x.scope x.start x.end x.history threshold) → RefusedBy (halt_of (refusal_of_plan e)) (plan_refusal (machine_of c tables) x)
   plan-refused e is = by_plan e _ (subst (FaultIs e) (sym fault-is) is)
 
-  pub plan-passed : plan_fault c.schemas.tables scope start end false threshold ≡ None → plan_refusal (machine_of c tables) scope end ≡ None
-  plan-passed none = ap (option_and_then refusal_of_plan) (fault-is ∙ none)
+  pub plan-allowed : plan_fault c.schemas.tables x.scope x.start x.end x.history threshold ≡ None → plan_refusal (machine_of c tables) x ≡ None
+  plan-allowed none = ap (option_and_then refusal_of_plan) (fault-is ∙ none)
 
-  pub plan-is : (collection : List ℕ) → layer_plan c.schemas.tables scope start end false threshold ≡ plan_of tables (full_layer (machine_of c tables) collection scope end)
+  pub plan-is : layer_plan c.schemas.tables x.scope x.start x.end x.history threshold ≡ plan_of tables (layer_record (machine_of c tables) x)
   unfolding layer_plan span_of plan_of
-  plan-is collection = ap (λ (s : Time). layer_plan c.schemas.tables scope s end false threshold) first ∙ ap (λ (ts : List (List Schema)). layer_plan ts scope zero_time end false threshold) (sym k.schemas)
+  plan-is = ap (layer_plan c.schemas.tables x.scope x.start x.end x.history) are ∙ ap (λ (ts : List (List Schema)). layer_plan ts x.scope x.start x.end x.history (by_id zero_time table_threshold tables)) (sym k.schemas)
 
 -- ---- the job
 
@@ -129,45 +119,109 @@ storable c tables k i table got =
       ascend = o.ascend;
     }
 
--- where no test refuses a full layer, what its plan exports is still kept
-kept-plan : (tables : List Table) (m : Machine) (collection : List ℕ) (scope : Scope) (end : Time) → plan_fault (schemas_of tables) scope zero_time end false (by_id zero_time table_threshold tables) ≡ None
-    → AllByRecursion (IsStillKept (bytes_of (rows_of tables))) (plan_of tables (full_layer m collection scope end)).tables
+-- where no test refuses a layer, what its plan exports is still kept
+kept-plan : (c : ClusterState) (tables : List Table) (x : Extent) → plan_fault (schemas_of tables) x.scope x.start x.end x.history (by_id zero_time table_threshold tables) ≡ None
+    → AllByRecursion (IsStillKept (bytes_of (rows_of tables))) (plan_of tables (layer_record (machine_of c tables) x)).tables
 unfolding layer_plan span_of plan_of
-kept-plan tables m collection scope end allowed =
+kept-plan c tables x allowed =
     let threshold = by_id zero_time table_threshold tables in
-    all-weaker (IsKept threshold) (IsStillKept (bytes_of (rows_of tables))) (λ t is. is.export) _ ((plan-stands (schemas_of tables) scope zero_time end false threshold).kept allowed)
+    all-weaker (IsKept threshold) (IsStillKept (bytes_of (rows_of tables))) (λ t is. is.export) _ ((plan-stands (schemas_of tables) x.scope x.start x.end x.history threshold).kept allowed)
 
-pub full-job : (c : ClusterState) (tables : List Table) → Keeps c tables → (collection : List ℕ) (scope : Scope) (end : Time) (n : LayerName) (p : LayerPlan) (job : Job)
-    → layer_refusal (machine_of c tables) collection scope end ≡ None → n ≡ name_of_record (full_layer (machine_of c tables) collection scope end) → IsLayerName n
-    → p ≡ plan_of tables (full_layer (machine_of c tables) collection scope end) → job ≡ started n false scope p c.schemas
-    → AllByRecursion (λ (t : TablePart). AllByRecursion IsProperSchema t.descriptors) job.manifest.tables
-    → plan_fault (schemas_of tables) scope zero_time end false (by_id zero_time table_threshold tables) ≡ None
-    → IsProperScope scope → 100 + length c.schemas.tables ≤ 2 ^ 32 → c.events ≤ c.most_events → c.most_events ≤ 1000000
-    → IsFullJob (machine_of c tables) collection scope end job
-full-job c tables k collection scope end n p job passed name-is form plan-is-p job-is proper allowed scoped few room limit =
-    let m = machine_of c tables in
-    let r = full_layer m collection scope end in
-    let is : job ≡ job_of tables r = job-is ∙ (started-same c.schemas (schemas_of tables) n false scope p k.schemas
-    ∙ (ap (λ (x : LayerName). started x false scope p (described tables)) name-is ∙ ap (λ (x : LayerPlan). started (name_of_record r) false scope x (described tables)) plan-is-p)) in
-    let full : IsFull r = record {
-      name = subst IsLayerName name-is form;
+-- ---- the record
+
+no-history : (tables : List (List Schema)) (scope : Scope) (start end : Time) (threshold : ℕ → Time) (history : Bool) → history ≡ false → floor_of tables scope start end history threshold ≡ start
+no-history tables scope start end threshold true plain = absurd (true≢false plain)
+no-history tables scope start end threshold false plain = refl
+
+-- the record of a layer that no test refuses is one of a layer
+pub layer-form : (m : Machine) (x : Extent) (last : Time) → IsNext x last → layer_refusal m x last ≡ None → IsLayerName (name_of_record (layer_record m x)) → IsTime (floor_over m x) → IsRecord (layer_record m x)
+layer-form m x last next passed name floor =
+    let first = first-passed (end_refusal x.end last) (plan_refusal m x ∷ []) passed in
+    let second = first-passed (plan_refusal m x) [] first.1 in
+    let after : time_lt last x.end ≡ true = end-after x.end last first.0 in
+    record {
+      name = name;
       from_one = omega arith;
-      start = refl;
-      floor = refl;
-      ends = le-lt-lt zero_time (last_full m collection) end (zero-le (last_full m collection)) (not-le end (last_full m collection) _ (first-passed (end_refusal m collection end) (plan_refusal m scope end ∷ []) passed).0);
-      full = refl;
-      history = refl;
-      scope = scoped;
-      version = refl;
-    } in
-    let count : length tables ≡ length c.schemas.tables = sym (length-map tables (λ (x : Table). x.descriptors)) ∙ ap length k.schemas in
+      ends = le-lt-lt x.start last x.end next.from after;
+      full = ⊎_elim (λ (same : x.full ≡ x.end). ap (λ (t : Time). time_le t x.end) same ∙ le-refl x.end) (λ (before : time_le x.full last ≡ true). le-trans x.full last x.end before (lt-le last x.end after)) next.full;
+      floor = floor;
+      from = floor-from m x;
+      upto = floor-within m x last next.from first.0 second.0;
+      bare = no-history (schemas_of m.history.tables) x.scope x.start x.end (thresholds m) x.history;
+      scope = next.scope;
+      version = inr refl;
+    }
+
+-- ---- descriptors
+
+AreProper : TablePart → Type 0
+unfoldable AreProper t = AllByRecursion IsProperSchema t.descriptors
+
+AreFew : TablePart → Type 0
+unfoldable AreFew t = length t.descriptors < 2 ^ 64
+
+option-has : {X : Type 0} (o : Option X) (x : X) → Has x (option_to_list o) → o ≡ Some x
+option-has None x none = absurd none
+option-has (Some y) x (inl is) = ap Some (sym is)
+option-has (Some y) x (inr none) = absurd none
+
+-- what a layer lists of a table are its descriptors
+listed-has : (history : Bool) (floor end : Time) (ds : List Schema) (d : Schema) → Has d (layer_descriptors history floor end ds) → Has d ds
+listed-has true floor end ds d has = ⊎_elim (λ (first : Has d (option_to_list (in_force ds floor))). in_force-has ds floor d (option-has (in_force ds floor) d first)) (λ (more : Has d (filter (λ (e : Schema). is_between floor (At end) e.modified) ds)). filter-has _ d ds more) (has-append_cases d (option_to_list (in_force ds floor)) _ has)
+listed-has false floor end ds d has = in_force-has ds end d (option-has (in_force ds end) d has)
+
+-- the descriptors of a table have the same key columns
+keyed-at : (c : ClusterState) (tables : List Table) → Keeps c tables → (id : ℕ) (d e : Schema) → Has d (descriptors_of (schemas_of tables) id) → Has e (descriptors_of (schemas_of tables) id) → d.key_columns ≡ e.key_columns
+keyed-at c tables k id d e = by (nat_lt id 100) (slice_get tables (id - 100)) refl (slice_get-map (λ (t : Table). t.descriptors) tables (id - 100))
+  where
+    by : (early : Bool) (o : Option Table) → slice_get tables (id - 100) ≡ o → slice_get (schemas_of tables) (id - 100) ≡ option_map (λ (t : Table). t.descriptors) (slice_get tables (id - 100))
+        → Has d (if early then [] else unwrap_or (slice_get (schemas_of tables) (id - 100)) []) → Has e (if early then [] else unwrap_or (slice_get (schemas_of tables) (id - 100)) []) → d.key_columns ≡ e.key_columns
+    by true o got mapped hd he = absurd hd
+    by false None got mapped hd he = absurd (let none : slice_get (schemas_of tables) (id - 100) ≡ None = mapped ∙ ap (option_map (λ (t : Table). t.descriptors)) got in let no : Has d (unwrap_or None []) = subst (λ (r : Option (List Schema)). Has d (unwrap_or r [])) none hd in no)
+    by false (Some table) got mapped hd he =
+        let some : slice_get (schemas_of tables) (id - 100) ≡ Some table.descriptors = mapped ∙ ap (option_map (λ (t : Table). t.descriptors)) got in
+        (k.orderly (id - 100) table got).keyed d e (subst (λ (r : Option (List Schema)). Has d (unwrap_or r [])) some hd) (subst (λ (r : Option (List Schema)). Has e (unwrap_or r [])) some he)
+
+parts-listable : (c : ClusterState) (tables : List Table) → Keeps c tables → (r : LayerRecord) → (ps : List TablePlan)
+    → AllByRecursion AreProper (map (part_of (described tables) r.history (plan_of tables r).floor r.end) ps) → AllByRecursion AreFew (map (part_of (described tables) r.history (plan_of tables r).floor r.end) ps)
+    → AllByRecursion (λ (t : TablePart). AreListable t.descriptors) (map (part_of (described tables) r.history (plan_of tables r).floor r.end) ps)
+unfolding AreProper AreFew
+parts-listable c tables k r [] proper few = tt
+parts-listable c tables k r (p ∷ ps) proper few = (
+  record {
+    proper = proper.0;
+    keyed = λ d e hd he. keyed-at c tables k p.id d e (listed-has r.history (plan_of tables r).floor r.end _ d hd) (listed-has r.history (plan_of tables r).floor r.end _ e he);
+    counted = few.0;
+  },
+  parts-listable c tables k r ps proper.1 few.1,
+)
+
+pub layer-listed : (c : ClusterState) (tables : List Table) → Keeps c tables → (r : LayerRecord) → AllByRecursion AreProper (bare tables r).tables → AllByRecursion AreFew (bare tables r).tables → AllByRecursion (λ (t : TablePart). AreListable t.descriptors) (bare tables r).tables
+layer-listed c tables k r proper few = parts-listable c tables k r (plan_of tables r).tables proper few
+
+pub layer-job : (c : ClusterState) (tables : List Table) → Keeps c tables → (x : Extent) (last : Time) (n : LayerName) (p : LayerPlan) (job : Job)
+    → IsNext x last → layer_refusal (machine_of c tables) x last ≡ None → n ≡ name_of_record (layer_record (machine_of c tables) x) → IsLayerName n
+    → p ≡ plan_of tables (layer_record (machine_of c tables) x) → IsTime p.floor → job ≡ started n x.history x.scope p c.schemas
+    → AllByRecursion (λ (t : TablePart). AllByRecursion IsProperSchema t.descriptors) job.manifest.tables → AllByRecursion (λ (t : TablePart). length t.descriptors < 2 ^ 64) job.manifest.tables
+    → plan_fault (schemas_of tables) x.scope x.start x.end x.history (by_id zero_time table_threshold tables) ≡ None
+    → 100 + length c.schemas.tables ≤ 2 ^ 32 → c.events ≤ c.most_events → c.most_events ≤ 1000000
+    → IsBackupJob (machine_of c tables) x last job
+unfolding AreProper AreFew plan_of
+layer-job c tables k x last n p job next passed name-is form plan-is-p floor job-is proper counted allowed few room limit =
+    let m = machine_of c tables in
+    let r = layer_record m x in
+    let is : job ≡ job_of tables r = job-is ∙ (started-same c.schemas (schemas_of tables) n x.history x.scope p k.schemas
+    ∙ (ap (λ (y : LayerName). started y x.history x.scope p (described tables)) name-is ∙ ap (λ (y : LayerPlan). started (name_of_record r) x.history x.scope y (described tables)) plan-is-p)) in
+    let is-record : IsRecord r = layer-form m x last next passed (subst IsLayerName name-is form) (subst (λ (y : LayerPlan). IsTime y.floor) plan-is-p floor) in
+    let count : length tables ≡ length c.schemas.tables = sym (length-map tables (λ (y : Table). y.descriptors)) ∙ ap length k.schemas in
     let events = k.events in
-    let may = layers-written tables r (storable c tables k) (omega (arith, count, few)) (omega (arith, events, room, limit)) (full-record r full)
-    (now-listed tables r refl (subst (λ (j : Job). AllByRecursion (λ (t : TablePart). AllByRecursion IsProperSchema t.descriptors) j.manifest.tables) is proper)) in
+    let listed = layer-listed c tables k r (subst (λ (j : Job). AllByRecursion AreProper j.manifest.tables) is proper) (subst (λ (j : Job). AllByRecursion AreFew j.manifest.tables) is counted) in
+    let may = layers-written tables r (storable c tables k) (omega (arith, count, few)) (omega (arith, events, room, limit)) is-record listed in
     record {
       passed = passed;
       is = is;
-      full = full;
+      form = is-record;
+      listed = listed;
       may = may;
-      writes = jobs-write tables r may refl (kept-plan tables m collection scope end allowed);
+      writes = jobs-write tables r may refl (kept-plan c tables x allowed);
     }

@@ -2,8 +2,7 @@
 use Rattle.std.proofs.Common.{◌≡◌, ℕ, ◌+◌, ◌≤◌, true, Contains, arith, map, length, List, [], ◌∷◌, ◌++◌, Option, Some, None, refl, sym, ap, subst, ◌∙◌, Result, Ok, Err, IsErrAnd}
 use Rattle.std.specs.Prelude.{IfErr, MatchResult, OnOk}
 use Rattle.std.proofs.lemmas.Result.{err_from_is_err_and}
-use Rattle.mvcc_keys.specs.Times.{Time, time_le}
-use Rattle.table_descriptors.specs.declared.scopes.Scope.{Scope}
+use Rattle.mvcc_keys.specs.Times.{Time, time_le, time_lt}
 use Rattle.history_model.specs.Histories.{Table}
 use Rattle.outside_world.specs.Disk.{View, IsImage, IsKnown, IsSameContent}
 use Rattle.outside_world.specs.Objects.{Objects}
@@ -37,7 +36,8 @@ use Rattle.reply_texts.specs.declared.answers.Answer.{Answer}
 use Rattle.reply_texts.specs.declared.replies.Response.{Response}
 use Rattle.machine_model.specs.Machine.{Backup, Machine, Stepped, answered, refused, unless_refused}
 use Rattle.machine_model.specs.Past.{IsLater}
-use Rattle.machine_model.specs.Backups.{backup_done, full_backup, full_layer, with_backup as with_made}
+use Rattle.machine_model.specs.declared.extents.Extent.{Extent}
+use Rattle.machine_model.specs.Backups.{backup, backup_done, layer_record, with_backup as with_made}
 use Rattle.machine_model.specs.Disks.{IsDone, IsIdle, IsReady, made_layers, setting_of}
 use Rattle.machine_model.proofs.DiskLaws.{ready_leaves}
 use Rattle.cluster_core.specs.declared.halts.Halt.{Halt}
@@ -45,7 +45,7 @@ use Rattle.cluster_core.specs.declared.halts.Halt.TheVariants.{Refused, Disk, Me
 use Rattle.cluster_core.specs.ClusterView.{ClusterState, record_of}
 use Rattle.cluster_core.specs.Halting.{halt_of_dir}
 use Rattle.cluster_core.specs.Standing.{AreAhead, HaltCounts, HaltHasCause, Keeps, MayPut, MayStep, RefusedBy, Runs, StandsFor, machine_of}
-use Rattle.cluster_core.specs.Backing.{IsFullJob, StandsStill, done_of, layer_refusal, with_backup, with_job}
+use Rattle.cluster_core.specs.Backing.{IsBackupJob, IsOfScopeOf, StandsStill, done_of, layer_refusal, with_backup, with_job}
 use Rattle.cluster_core.proofs.Storing.{answer-is, done-ready, failed, few, final-of, has-last, is-among-layers, is-writing, made, only-disk}
 
 -- the disk is ready for the machine of the tables that the cluster has
@@ -102,26 +102,26 @@ fault-counts before now r fault e is cause counts = record { later = cause.later
 abbrev tested : (m : Machine) → Option Refusal → Stepped → Stepped
 tested m test change = unless_refused m test change
 
-layer-refused : (m : Machine) (collection : List ℕ) (scope : Scope) (end clock : Time) (refusal : Refusal) → layer_refusal m collection scope end ≡ Some refusal → full_backup m [] collection scope end clock ≡ refused m refusal
-layer-refused m collection scope end clock refusal is = ap (λ (test : Option Refusal). unless_refused m test (answered (with_made m clock (full_layer m collection scope end)) (backup_done (full_layer m collection scope end) (manifest_of m.history.tables (full_layer m collection scope end))))) is
+layer-refused : (m : Machine) (extent : Extent) (last clock : Time) (refusal : Refusal) → layer_refusal m extent last ≡ Some refusal → backup m [] extent last clock ≡ refused m refusal
+layer-refused m extent last clock refusal is = ap (λ (test : Option Refusal). unless_refused m test (answered (with_made m clock (layer_record m extent)) (backup_done (layer_record m extent) (manifest_of m.history.tables (layer_record m extent))))) is
 
-layer-made : (m : Machine) (collection : List ℕ) (scope : Scope) (end clock : Time) → layer_refusal m collection scope end ≡ None
-    → full_backup m [] collection scope end clock ≡ answered (with_made m clock (full_layer m collection scope end)) (backup_done (full_layer m collection scope end) (manifest_of m.history.tables (full_layer m collection scope end)))
-layer-made m collection scope end clock is = ap (λ (test : Option Refusal). unless_refused m test (answered (with_made m clock (full_layer m collection scope end)) (backup_done (full_layer m collection scope end) (manifest_of m.history.tables (full_layer m collection scope end))))) is
+layer-made : (m : Machine) (extent : Extent) (last clock : Time) → layer_refusal m extent last ≡ None
+    → backup m [] extent last clock ≡ answered (with_made m clock (layer_record m extent)) (backup_done (layer_record m extent) (manifest_of m.history.tables (layer_record m extent)))
+layer-made m extent last clock is = ap (λ (test : Option Refusal). unless_refused m test (answered (with_made m clock (layer_record m extent)) (backup_done (layer_record m extent) (manifest_of m.history.tables (layer_record m extent))))) is
 
-module _ (c : ClusterState) (collection : List ℕ) (scope : Scope) (end clock : Time) where
+module _ (c : ClusterState) (extent : Extent) (last clock : Time) where
   abbrev means : Machine → Stepped
-  means m = full_backup m [] collection scope end clock
+  means m = backup m [] extent last clock
 
   -- a test refuses the layer
-  pub refused-runs : (v : View) (r : Result Answer Halt) (e : Halt) → IsErrAnd r (λ y. y ≡ e) → ((tables : List Table) → Keeps c tables → RefusedBy e (layer_refusal (machine_of c tables) collection scope end))
+  pub refused-runs : (v : View) (r : Result Answer Halt) (e : Halt) → IsErrAnd r (λ y. y ≡ e) → ((tables : List Table) → Keeps c tables → RefusedBy e (layer_refusal (machine_of c tables) extent last))
       → (IsKnown v → (image : Objects) → v.left_since v.moment image → IsImage v image) → (m to : Machine) → MayStep c m (means m) to v → Runs c (means m) to r v v
   refused-runs v r e is by only m to may =
       let s = may.stands in
       as-returned (λ (x : Result Answer Halt). Runs c (means m) to x v v) r e is
-      (halted-runs c m (means m) to v e (layer_refusal m collection scope end) (subst (λ (x : Machine). RefusedBy e (layer_refusal x collection scope end)) (sym s.machine_is) (by s.tables s.keeps)) (layer-refused m collection scope end clock) only s may.ready)
+      (halted-runs c m (means m) to v e (layer_refusal m extent last) (subst (λ (x : Machine). RefusedBy e (layer_refusal x extent last)) (sym s.machine_is) (by s.tables s.keeps)) (layer-refused m extent last clock) only s may.ready)
 
-  module _ (within : time_le end clock ≡ true) (on : time_le c.clock clock ≡ true) (job : Job) (full : (tables : List Table) → Keeps c tables → IsFullJob (machine_of c tables) collection scope end job)
+  module _ (scopes : time_lt last extent.end ≡ true → IsOfScopeOf c.book extent) (within : time_le extent.end clock ≡ true) (on : time_le c.clock clock ≡ true) (job : Job) (full : (tables : List Table) → Keeps c tables → IsBackupJob (machine_of c tables) extent last job)
       (store : MvccMap) (is : store ≡ c.store) (result : Result (Unit {0}) DirFault) (next : Job) (kept : (h : Tables) → KeepsAll store.tables.entries h → MayRun h job → IsSameJob h job next) where
     abbrev dated : ClusterState
     dated = record c { clock = clock }
@@ -144,20 +144,20 @@ module _ (c : ClusterState) (collection : List ℕ) (scope : Scope) (end clock :
     -- ---- every disk
 
     pub few-chunks : IsWhole → (m : Machine) × StandsFor c m → chunk_count next.manifest.tables ≤ 1000000
-    few-chunks whole x = let s = x.1 in few c s.tables s.keeps s.backups collection scope end clock within on job (full s.tables s.keeps) next (same s.tables s.keeps) (whole-of whole s.tables s.keeps)
+    few-chunks whole x = let s = x.1 in few c s.tables s.keeps s.backups extent last clock within on job (full s.tables s.keeps) next (same s.tables s.keeps) (whole-of whole s.tables s.keeps)
 
     pub done-still : IsWhole → (new : ClusterState) → new ≡ with_backup dated next → (m : Machine) × StandsFor c m → (m : Machine) × StandsFor new m
     done-still whole new is-new x = let s = x.1 in (
-      with_made (machine_of c s.tables) clock (full_layer (machine_of c s.tables) collection scope end),
-      subst (λ (n : ClusterState). StandsFor n (with_made (machine_of c s.tables) clock (full_layer (machine_of c s.tables) collection scope end))) (sym is-new)
-          (made c s.tables s.keeps s.backups collection scope end clock within on job (full s.tables s.keeps) next (same s.tables s.keeps) (whole-of whole s.tables s.keeps)),
+      with_made (machine_of c s.tables) clock (layer_record (machine_of c s.tables) extent),
+      subst (λ (n : ClusterState). StandsFor n (with_made (machine_of c s.tables) clock (layer_record (machine_of c s.tables) extent))) (sym is-new)
+          (made c s.tables s.keeps s.backups extent last clock within on job (full s.tables s.keeps) next (same s.tables s.keeps) (whole-of whole s.tables s.keeps) scopes),
     )
 
     pub failed-still : (new : ClusterState) → new ≡ with_job dated next → (m : Machine) × StandsFor c m → (m : Machine) × StandsFor new m
-    failed-still new is-new x = let s = x.1 in let r = full_layer (machine_of c s.tables) collection scope end in (
+    failed-still new is-new x = let s = x.1 in let r = layer_record (machine_of c s.tables) extent in (
       record (machine_of c s.tables) { clock = clock; jobs = c.jobs ++ Backup r ∷ [] },
       subst (λ (n : ClusterState). StandsFor n (record (machine_of c s.tables) { clock = clock; jobs = c.jobs ++ Backup r ∷ [] })) (sym is-new)
-          (failed c s.tables s.keeps s.backups collection scope end clock within on job (full s.tables s.keeps) next (same s.tables s.keeps)),
+          (failed c s.tables s.keeps s.backups extent last clock within on job (full s.tables s.keeps) next (same s.tables s.keeps)),
     )
 
     -- only names of the cluster are put
@@ -166,7 +166,7 @@ module _ (c : ClusterState) (collection : List ℕ) (scope : Scope) (end clock :
         only_less
         (λ n at. record {
           object = record { layer = job.name; part = at.0 };
-          form = record { layer = subst IsLayerName (sym (ap (λ (y : Job). y.name) j.is)) j.full.name; part = at.1 };
+          form = record { layer = subst IsLayerName (sym (ap (λ (y : Job). y.name) j.is)) j.form.name; part = at.1 };
           own = ap (λ (y : Job). y.name.cluster) j.is;
           spelled = at.2;
         })
@@ -177,43 +177,43 @@ module _ (c : ClusterState) (collection : List ℕ) (scope : Scope) (end clock :
 
     module _ (first now : View) (disk : (h : Tables) → KeepsAll store.tables.entries h → (older : LayerObjects → List ℕ) (s : Setting) (w : LayerObjects) → IsAmong s w → IsWriting older s w h job first → RunWrites older s w (completed h job) result next first now)
         (counts : (t : ℕ) (image : Objects) → IsKnown now → t ≤ now.moment → IsImage now image → now.left_since t image) where
-      later-of : (m to : Machine) (may : MayStep c m (means m) to first) → IsLater (with_made (machine_of c may.stands.tables) clock (full_layer (machine_of c may.stands.tables) collection scope end)) to
+      later-of : (m to : Machine) (may : MayStep c m (means m) to first) → IsLater (with_made (machine_of c may.stands.tables) clock (layer_record (machine_of c may.stands.tables) extent)) to
       later-of m to may =
           let s = may.stands in
-          let is-made = layer-made (machine_of c s.tables) collection scope end clock (full s.tables s.keeps).passed in
+          let is-made = layer-made (machine_of c s.tables) extent last clock (full s.tables s.keeps).passed in
           subst (λ (x : Stepped). IsLater x.machine to) is-made (subst (λ (x : Machine). IsLater (means x).machine to) s.machine_is may.later)
 
-      writes : (m to : Machine) (may : MayStep c m (means m) to first) → RunWrites older_manifest (setting_of to) (objects_of may.stands.tables (full_layer (machine_of c may.stands.tables) collection scope end)) (completed (bytes_of (rows_of may.stands.tables)) job) result next first now
+      writes : (m to : Machine) (may : MayStep c m (means m) to first) → RunWrites older_manifest (setting_of to) (objects_of may.stands.tables (layer_record (machine_of c may.stands.tables) extent)) (completed (bytes_of (rows_of may.stands.tables)) job) result next first now
       writes m to may =
           let s = may.stands in
           disk (bytes_of (rows_of s.tables)) (holds s.tables s.keeps) older_manifest (setting_of to) _
-          (is-among-layers c s.tables s.keeps s.backups collection scope end clock within on job (full s.tables s.keeps) to first (ready-over may) (later-of m to may))
-          (is-writing c s.tables s.keeps s.backups collection scope end clock within on job (full s.tables s.keeps) to first (ready-over may) (later-of m to may))
+          (is-among-layers c s.tables s.keeps s.backups extent last clock within on job (full s.tables s.keeps) to first (ready-over may) (later-of m to may))
+          (is-writing c s.tables s.keeps s.backups extent last clock within on job (full s.tables s.keeps) to first (ready-over may) (later-of m to may))
 
       -- the layer is open already
       idle : (m to : Machine) → MayStep c m (means m) to first → IsDone to first.objects → IsIdle first now
       idle m to may done =
           let s = may.stands in
-          let among = is-among-layers c s.tables s.keeps s.backups collection scope end clock within on job (full s.tables s.keeps) to first (ready-over may) (later-of m to may) in
+          let among = is-among-layers c s.tables s.keeps s.backups extent last clock within on job (full s.tables s.keeps) to first (ready-over may) (later-of m to may) in
           idle-same first now ((writes m to may).calm (done _ among.started.among).0)
 
-      among-of : (m to : Machine) (may : MayStep c m (means m) to first) → IsAmong (setting_of to) (objects_of may.stands.tables (full_layer (machine_of c may.stands.tables) collection scope end))
+      among-of : (m to : Machine) (may : MayStep c m (means m) to first) → IsAmong (setting_of to) (objects_of may.stands.tables (layer_record (machine_of c may.stands.tables) extent))
       among-of m to may =
           let s = may.stands in
-          is-among-layers c s.tables s.keeps s.backups collection scope end clock within on job (full s.tables s.keeps) to first (ready-over may) (later-of m to may)
+          is-among-layers c s.tables s.keeps s.backups extent last clock within on job (full s.tables s.keeps) to first (ready-over may) (later-of m to may)
 
-      made-of : (m to : Machine) (may : MayStep c m (means m) to first) → means m ≡ answered (with_made (machine_of c may.stands.tables) clock (full_layer (machine_of c may.stands.tables) collection scope end))
-          (backup_done (full_layer (machine_of c may.stands.tables) collection scope end) (manifest_of may.stands.tables (full_layer (machine_of c may.stands.tables) collection scope end)))
-      made-of m to may = let s = may.stands in ap means s.machine_is ∙ layer-made (machine_of c s.tables) collection scope end clock (full s.tables s.keeps).passed
+      made-of : (m to : Machine) (may : MayStep c m (means m) to first) → means m ≡ answered (with_made (machine_of c may.stands.tables) clock (layer_record (machine_of c may.stands.tables) extent))
+          (backup_done (layer_record (machine_of c may.stands.tables) extent) (manifest_of may.stands.tables (layer_record (machine_of c may.stands.tables) extent)))
+      made-of m to may = let s = may.stands in ap means s.machine_is ∙ layer-made (machine_of c s.tables) extent last clock (full s.tables s.keeps).passed
 
       -- of the layers that the script makes only this one's names are put, and none of a chunk that was marked
       puts : (m to : Machine) → MayStep c m (means m) to first → ChangesOnly (MayPut (means m).machine to first.objects) (IsOwnName to.name) first now
       puts m to may =
           let s = may.stands in
-          let r = full_layer (machine_of c s.tables) collection scope end in
+          let r = layer_record (machine_of c s.tables) extent in
           let w = objects_of s.tables r in
           let among = (among-of m to may).started in
-          let final = final-of c s.tables s.keeps s.backups collection scope end clock within on job (full s.tables s.keeps) to first (ready-over may) (later-of m to may) in
+          let final = final-of c s.tables s.keeps s.backups extent last clock within on job (full s.tables s.keeps) to first (ready-over may) (later-of m to may) in
           let has : Has r (means m).machine.layers = subst (λ (x : Stepped). Has r x.machine.layers) (sym (made-of m to may)) (has-last r (map record_of c.book.layers)) in
           only_less
           (λ n at. (
@@ -228,7 +228,7 @@ module _ (c : ClusterState) (collection : List ℕ) (scope : Scope) (end clock :
       ahead : (m to : Machine) → MayStep c m (means m) to first → AreAhead (means m).machine to first.objects now.objects
       ahead m to may =
           let s = may.stands in
-          let r = full_layer (machine_of c s.tables) collection scope end in
+          let r = layer_record (machine_of c s.tables) extent in
           let w = objects_of s.tables r in
           let among = (among-of m to may).started in
           let run = writes m to may in
@@ -242,7 +242,7 @@ module _ (c : ClusterState) (collection : List ℕ) (scope : Scope) (end clock :
       manifests : (m to : Machine) → MayStep c m (means m) to first → KeepManifests (made_layers to) first.objects now.objects
       manifests m to may =
           let s = may.stands in
-          let w = objects_of s.tables (full_layer (machine_of c s.tables) collection scope end) in
+          let w = objects_of s.tables (layer_record (machine_of c s.tables) extent) in
           let among = (among-of m to may).started in
           let run = writes m to may in
           manifests-by-one (setting_of to) among.proper w among.among (AtUnmarked w first.objects) NoName (λ n at. at.0) (λ n never. absurd never) first now may.ready.known.tells run.changes run.keeps
@@ -262,7 +262,7 @@ module _ (c : ClusterState) (collection : List ℕ) (scope : Scope) (end clock :
       fault-runs new fault e is-err of-disk m to may =
           let s = may.stands in
           let ok = (subst (λ (x : Result (Unit {0}) DirFault). IfErr x IsDiskFault) is-err
-          (only-disk c s.tables s.keeps s.backups collection scope end clock within on job (full s.tables s.keeps) to first (ready-over may) (later-of m to may) result next now (writes m to may))) in
+          (only-disk c s.tables s.keeps s.backups extent last clock within on job (full s.tables s.keeps) to first (ready-over may) (later-of m to may) result next now (writes m to may))) in
           subst (λ (y : Halt). Runs new (means m) to (Err y) first now) (sym (of-disk ok)) (fault-ends new m to may fault ok)
 
       pub done-runs : (u : Unit {0}) → result ≡ Ok u → IsWhole → (new : ClusterState) → new ≡ with_backup dated next → (a : Answer) → a ≡ done_of next.name next.manifest → (m to : Machine) → MayStep c m (means m) to first → Runs new (means m) to (Ok a) first now
@@ -271,17 +271,17 @@ module _ (c : ClusterState) (collection : List ℕ) (scope : Scope) (end clock :
           let j = full s.tables s.keeps in
           let x = machine_of c s.tables in
           let run = writes m to may in
-          let is-made = ap means s.machine_is ∙ layer-made x collection scope end clock j.passed in
+          let is-made = ap means s.machine_is ∙ layer-made x extent last clock j.passed in
           let known = still_known may.ready.known run.changes.kind in
           let stands = run.moments.each now.objects (counts first.moment now.objects known run.moments.later (as_read now)) in
-          let ready = done-ready c s.tables s.keeps s.backups collection scope end clock within on job j to first (ready-over may) (later-of m to may) now (only_less (λ n at. at.0) (λ n never. never) run.changes)
-          (subst (λ (y : Result (Unit {0}) DirFault). OnOk y (IsWritten older_manifest (objects_of s.tables (full_layer x collection scope end)) now)) is-ok run.is_written)
+          let ready = done-ready c s.tables s.keeps s.backups extent last clock within on job j to first (ready-over may) (later-of m to may) now (only_less (λ n at. at.0) (λ n never. never) run.changes)
+          (subst (λ (y : Result (Unit {0}) DirFault). OnOk y (IsWritten older_manifest (objects_of s.tables (layer_record x extent)) now)) is-ok run.is_written)
           (subst (λ (y : Result (Unit {0}) DirFault). OnOk y (IsSettled now)) is-ok (run.settled may.ready.settled)) stands in
           record {
             responds = (
-              subst (λ (y : Stepped). StandsFor new y.machine) (sym is-made) (subst (λ (n : ClusterState). StandsFor n (with_made x clock (full_layer x collection scope end))) (sym is-new)
-                  (made c s.tables s.keeps s.backups collection scope end clock within on job j next (same s.tables s.keeps) (whole-of whole s.tables s.keeps))),
-              ap (λ (y : Stepped). y.response) is-made ∙ ap Response.Answered (sym (is-answer ∙ answer-is c s.tables s.keeps s.backups collection scope end clock within on job j next (same s.tables s.keeps) (whole-of whole s.tables s.keeps))),
+              subst (λ (y : Stepped). StandsFor new y.machine) (sym is-made) (subst (λ (n : ClusterState). StandsFor n (with_made x clock (layer_record x extent))) (sym is-new)
+                  (made c s.tables s.keeps s.backups extent last clock within on job j next (same s.tables s.keeps) (whole-of whole s.tables s.keeps) scopes)),
+              ap (λ (y : Stepped). y.response) is-made ∙ ap Response.Answered (sym (is-answer ∙ answer-is c s.tables s.keeps s.backups extent last clock within on job j next (same s.tables s.keeps) (whole-of whole s.tables s.keeps))),
             );
             ready = subst (λ (y : Stepped). IsReady (Some y.machine) (Some to) now) (sym is-made) ready;
             leaves = run.moments;

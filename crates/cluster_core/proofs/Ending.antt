@@ -76,13 +76,18 @@ ending-halted c (Some t) change r e is fault v only m to may =
     (halted-runs c m s to v e (future_refusal m t) (subst (λ (k : Time). RefusedBy e (refusal_if (time_lt k t) (Future k))) (sym (clock-is c m may.stands)) fault)
     (λ refusal by. stops m (future_refusal m t) [] (change m t m.clock) refusal by) only may.stands may.ready)
 
+-- a command that is another one on every machine for which the cluster stands does what that one does
+pub runs-by : (c new : ClusterState) (s t : Machine → Stepped) (r : Result Answer Halt) (a b : View) → ((m : Machine) → StandsFor c m → t m ≡ s m) → ((m to : Machine) → MayStep c m (s m) to a → Runs new (s m) to r a b)
+    → (m to : Machine) → MayStep c m (t m) to a → Runs new (t m) to r a b
+runs-by c new s t r a b is runs m to may = let e = is m may.stands in runs-as new (s m) (t m) to r a b (sym e) (runs m to (may-as c m (t m) (s m) to a e may))
+
 -- ---- tests before those of the layer
 
-module _ (m : Machine) (collection : List ℕ) (scope : Scope) (end clock : Time) where
-  pub first-passes : (test : Option Refusal) (tests : List (Option Refusal)) → test ≡ None → full_backup m (test ∷ tests) collection scope end clock ≡ full_backup m tests collection scope end clock
+module _ (m : Machine) (collection : List ℕ) (scope : Scope) (history : Bool) (end clock : Time) where
+  pub first-passes : (test : Option Refusal) (tests : List (Option Refusal)) → test ≡ None → full_backup m (test ∷ tests) collection scope history end clock ≡ full_backup m tests collection scope history end clock
   first-passes test tests none = passes m test _ _ none
 
-  pub first-stops : (test : Option Refusal) (tests : List (Option Refusal)) (refusal : Refusal) → test ≡ Some refusal → full_backup m (test ∷ tests) collection scope end clock ≡ refused m refusal
+  pub first-stops : (test : Option Refusal) (tests : List (Option Refusal)) (refusal : Refusal) → test ≡ Some refusal → full_backup m (test ∷ tests) collection scope history end clock ≡ refused m refusal
   first-stops test tests refusal is = stops m test _ _ refusal is
 
 -- a command that wanted memory before it changed anything
@@ -91,17 +96,17 @@ memory-halted c m s to v only r is may = as-returned (λ (x : Result Answer Halt
 
 -- ---- a backup up to its end
 
-module _ (c : ClusterState) (at : Option Time) (x : Time × Time) (ends : IsEnding c.clock at x) (collection : List ℕ) (scope : Machine → Time → Scope) where
+module _ (c : ClusterState) (at : Option Time) (x : Time × Time) (ends : IsEnding c.clock at x) (collection : List ℕ) (scope : Machine → Time → Scope) (history : Bool) where
   abbrev pub means : (Machine → Time → List (Option Refusal)) → Machine → Stepped
-  means tests m = ending m at (λ end clock. full_backup m (tests m end) collection (scope m end) end clock)
+  means tests m = ending m at (λ end clock. full_backup m (tests m end) collection (scope m end) history end clock)
 
-  pub means-is : (tests : Machine → Time → List (Option Refusal)) (m : Machine) → StandsFor c m → means tests m ≡ full_backup m (tests m x.0) collection (scope m x.0) x.0 x.1
-  means-is tests m s = ending-is c m s at x (λ end clock. full_backup m (tests m end) collection (scope m end) end clock) ends
+  pub means-is : (tests : Machine → Time → List (Option Refusal)) (m : Machine) → StandsFor c m → means tests m ≡ full_backup m (tests m x.0) collection (scope m x.0) history x.0 x.1
+  means-is tests m s = ending-is c m s at x (λ end clock. full_backup m (tests m end) collection (scope m end) history end clock) ends
 
   -- a test after some that passed refuses it
   pub backup-halted : (tests : Machine → Time → List (Option Refusal)) (test : Machine → Option Refusal) (v : View) → (IsKnown v → (image : Objects) → v.left_since v.moment image → IsImage v image) → (r : Result Answer Halt) (e : Halt) → IsErrAnd r (λ y. y ≡ e)
       → ((tables : List Table) → Keeps c tables → RefusedBy e (test (machine_of c tables)))
-      → ((m : Machine) → StandsFor c m → (refusal : Refusal) → test m ≡ Some refusal → full_backup m (tests m x.0) collection (scope m x.0) x.0 x.1 ≡ refused m refusal)
+      → ((m : Machine) → StandsFor c m → (refusal : Refusal) → test m ≡ Some refusal → full_backup m (tests m x.0) collection (scope m x.0) history x.0 x.1 ≡ refused m refusal)
       → (m to : Machine) → MayStep c m (means tests m) to v → Runs c (means tests m) to r v v
   backup-halted tests test v only r e is by stops m to may =
       let s = may.stands in
@@ -110,12 +115,12 @@ module _ (c : ClusterState) (at : Option Time) (x : Time × Time) (ends : IsEndi
 
   -- all of them passed
   pub backup-runs : (tests : Machine → Time → List (Option Refusal)) (fixed : Scope) (new : ClusterState) (r : Result Answer Halt) (a b : View)
-      → ((m : Machine) → StandsFor c m → full_backup m (tests m x.0) collection (scope m x.0) x.0 x.1 ≡ full_backup m [] collection fixed x.0 x.1)
-      → ((m to : Machine) → MayStep c m (full_backup m [] collection fixed x.0 x.1) to a → Runs new (full_backup m [] collection fixed x.0 x.1) to r a b)
+      → ((m : Machine) → StandsFor c m → full_backup m (tests m x.0) collection (scope m x.0) history x.0 x.1 ≡ full_backup m [] collection fixed history x.0 x.1)
+      → ((m to : Machine) → MayStep c m (full_backup m [] collection fixed history x.0 x.1) to a → Runs new (full_backup m [] collection fixed history x.0 x.1) to r a b)
       → (m to : Machine) → MayStep c m (means tests m) to a → Runs new (means tests m) to r a b
   backup-runs tests fixed new r a b passed runs m to may =
       let is = means-is tests m may.stands ∙ passed m may.stands in
-      runs-as new (full_backup m [] collection fixed x.0 x.1) (means tests m) to r a b (sym is) (runs m to (may-as c m (means tests m) (full_backup m [] collection fixed x.0 x.1) to a is may))
+      runs-as new (full_backup m [] collection fixed history x.0 x.1) (means tests m) to r a b (sym is) (runs m to (may-as c m (means tests m) (full_backup m [] collection fixed history x.0 x.1) to a is may))
 
 pub stood-catalog : (c : ClusterState) (m : Machine) → StandsFor c m → catalog_of m ≡ c.schemas
 stood-catalog c m s = ap catalog_of s.machine_is ∙ catalog-is c s.tables s.keeps

@@ -7,7 +7,7 @@ use Rattle.std.proofs.lemmas.Slice.Eq.{bytes_eq-Decides}
 use Rattle.mvcc_keys.specs.Times.{Time, time_eq}
 use Rattle.row_codec.proofs.KeyOrder.{both_true}
 use Rattle.list_laws.specs.Members.{Has}
-use Rattle.list_laws.proofs.Members.{filter-has, filter-passes, has-filter, has-map}
+use Rattle.list_laws.proofs.Members.{filter-has, filter-passes, has-filter, has-map, map-has}
 use Rattle.mvcc_keys.proofs.TimeOrder.{le-refl, eq-refl}
 use Rattle.fact_model.proofs.Orders.{ordered-has}
 use Rattle.history_model.specs.Histories.{Table}
@@ -172,8 +172,13 @@ module _ (c : ClusterState) (source : Src) (collection : List ℕ) (start end : 
           only_less (λ n no. absurd no)
           (λ n at.
           let q = part-of p.0 chunks (omega (arith, count, few)) n at in
-          record { object = record { layer = p.0; part = q.0 }; form = record { layer = o.full.name; part = q.1 }; own = o.cluster; spelled = q.2 })
+          record { object = record { layer = p.0; part = q.0 }; form = record { layer = o.is.name; part = q.1 }; own = o.cluster; spelled = q.2 })
           changes
+
+      still : (x : recorded.LayerRecord) → Has x (map record_of without.book.layers) → Has x (map record_of c.book.layers)
+      still x has =
+          let m = map-has record_of x without.book.layers has in
+          subst (λ (y : recorded.LayerRecord). Has y (map record_of c.book.layers)) (sym m.2) (has-map record_of m.0 c.book.layers (filter-has (λ y. not (same_name y.0 p.0)) m.0 c.book.layers m.1))
 
       taken : (tables : List Table) → Keeps c tables → HasBackups c tables → StandsFor without (forgetting (machine_of c tables) r)
       taken tables k b = record {
@@ -181,8 +186,9 @@ module _ (c : ClusterState) (source : Src) (collection : List ℕ) (start end : 
         keeps = keeps-as c without tables k refl refl refl (le-refl c.clock);
         machine_is = ap (λ (qs : List recorded.LayerRecord). record (machine_of c tables) { layers = qs }) (sym (others-map p.0 r refl c.book.layers));
         backups = record {
-          backups = λ place q got. (let o = b.backups place q got in record { number = o.number; cluster = o.cluster; full = o.full; over = o.over; few = o.few });
+          backups = λ place q got. (let o = b.backups place q got in record { number = o.number; cluster = o.cluster; is = o.is; version = o.version; over = o.over; few = o.few; listed = o.listed });
           layers = λ x has. b.layers x (filter-has (λ y. not (same_name y.0 p.0)) x c.book.layers has);
+          scopes = λ x y hx hy. b.scopes x y (still x hx) (still y hy);
         };
       }
 

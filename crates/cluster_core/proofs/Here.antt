@@ -1,5 +1,6 @@
 -- Commands that have nothing to do with the disk: they leave the layers and the jobs, and the disk stays ready.
 use Rattle.std.proofs.Common.{◌≡◌, ◌⊎◌, ℕ, Bool, true, arith, List, map, length, Some, slice_get, refl, sym, ap, subst, ◌∙◌, Result, Ok, Err, IfErr}
+use Rattle.std.specs.List.{AllByRecursion}
 use Rattle.mvcc_keys.specs.Times.{time_le}
 use Rattle.list_laws.specs.Members.{Has}
 use Rattle.mvcc_keys.proofs.TimeOrder.{le-refl, le-trans}
@@ -10,11 +11,13 @@ use Rattle.outside_world.specs.Objects.{Objects}
 use Rattle.outside_world.proofs.Runs.{only_none}
 use Rattle.collection_dir.proofs.StandsLaws.{manifests-same}
 use Rattle.layer_manifest.specs.declared.manifest.Manifest.{Manifest}
+use Rattle.layer_manifest.specs.declared.manifest.TablePart.{TablePart}
 use Rattle.layer_model.specs.declared.names.LayerName.{LayerName}
 use Rattle.layer_model.specs.Layers as stored
 use Rattle.layer_book.specs.Books.{Book}
 use Rattle.layer_objects.specs.Objects.{objects_of}
 use Rattle.layer_objects.specs.Past.{KeepsPast}
+use Rattle.layer_objects.specs.Storable.{AreListable}
 use Rattle.reply_texts.specs.declared.answers.Answer.{Answer}
 use Rattle.machine_model.specs.Machine.{Backup, Job, Machine, Stepped, refused}
 use Rattle.machine_model.specs.Past.{IsLater}
@@ -23,12 +26,12 @@ use Rattle.machine_model.proofs.DiskLaws.{ready_leaves}
 use Rattle.cluster_core.specs.declared.halts.Halt.{Halt}
 use Rattle.cluster_core.specs.declared.halts.Halt.TheVariants.{Refused, Disk, Memory}
 use Rattle.cluster_core.specs.ClusterView.{ClusterState, record_of}
-use Rattle.cluster_core.specs.Standing.{Does, HaltHasCause, HasBackups, HasTables, IsBooked, IsOwnBackup, Keeps, LeavesRest, MayStep, Runs, StandsFor, machine_of}
+use Rattle.cluster_core.specs.Standing.{AreOfOneScope, Does, HaltHasCause, HasBackups, HasTables, IsBooked, IsOwnBackup, Keeps, LeavesRest, MayStep, Runs, StandsFor, machine_of}
 use Rattle.cluster_core.specs.Backing.{StandsStill}
 use Rattle.cluster_core.proofs.BackingUp.{halted-runs, idle-none}
 use Rattle.cluster_core.proofs.Flow.{same-refused}
 use Rattle.cluster_core.proofs.Kept.{keeps-as}
-use Rattle.cluster_core.proofs.Others.{final}
+use Rattle.cluster_core.proofs.Others.{final, final-bare}
 use Rattle.cluster_core.proofs.Storing.{has-place}
 
 -- ---- the backups
@@ -37,13 +40,22 @@ use Rattle.cluster_core.proofs.Storing.{has-place}
 pub kept-backups : (old new : ClusterState) (tables later : List Table) → Keeps old tables → HasBackups old tables → KeepsPast old.clock tables later → time_le old.clock new.clock ≡ true → new.name ≡ old.name → new.jobs ≡ old.jobs → new.book ≡ old.book → HasBackups new later
 kept-backups old new tables later k b past le name jobs book = record {
   backups = λ place r got. (let o = b.backups place r (subst (λ (js : List Job). slice_get js place ≡ Some (Backup r)) jobs got) in let is = same r o in
-      record { number = o.number; cluster = o.cluster ∙ sym name; full = o.full; over = le-trans r.end old.clock new.clock o.over le; few = subst stored.IsLayer (sym is) o.few });
+      record {
+        number = o.number;
+        cluster = o.cluster ∙ sym name;
+        is = o.is;
+        version = o.version;
+        over = le-trans r.end old.clock new.clock o.over le;
+        few = subst stored.IsLayer (sym is) o.few;
+        listed = subst (λ (m : Manifest). AllByRecursion (λ (t : TablePart). AreListable t.descriptors) m.tables) (sym (final-bare old tables later old.clock r k past o.is o.over)) o.listed;
+      });
   layers = λ p has. (let o = b.layers p (subst (λ (x : Book). Has p x.layers) book has) in let is = booked p o in
       record { among = subst (Has (Backup (record_of p))) (sym jobs) o.among; manifest = o.manifest ∙ ap (λ (w : stored.LayerObjects). w.manifest) (sym is); chunks = o.chunks ∙ ap (λ (w : stored.LayerObjects). length w.chunks) (sym is); proper = o.proper });
+  scopes = subst (λ (x : Book). AreOfOneScope (map record_of x.layers)) (sym book) b.scopes;
 }
   where
     same : {place : ℕ} (r : LayerRecord) → IsOwnBackup old tables place r → objects_of later r ≡ objects_of tables r
-    same r o = final old tables later old.clock r k past o.full o.over
+    same r o = final old tables later old.clock r k past o.is o.over
 
     booked : (p : LayerName × Manifest) → IsBooked old.jobs tables p → objects_of later (record_of p) ≡ objects_of tables (record_of p)
     booked p o = let at = has-place (Backup (record_of p)) old.jobs o.among in same (record_of p) (b.backups at.0 (record_of p) at.1)
@@ -55,8 +67,9 @@ recounted c steps ended m s = record {
   keeps = keeps-as c (record c { steps = steps; ended = ended }) s.tables s.keeps refl refl refl (le-refl c.clock);
   machine_is = s.machine_is;
   backups = record {
-    backups = λ place r got. (let o = s.backups.backups place r got in record { number = o.number; cluster = o.cluster; full = o.full; over = o.over; few = o.few });
+    backups = λ place r got. (let o = s.backups.backups place r got in record { number = o.number; cluster = o.cluster; is = o.is; version = o.version; over = o.over; few = o.few; listed = o.listed });
     layers = s.backups.layers;
+    scopes = s.backups.scopes;
   };
 }
 

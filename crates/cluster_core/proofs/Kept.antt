@@ -56,6 +56,7 @@ later s t id table le o = record {
   dated = λ d has. le-trans d.modified s t (o.dated d has) le;
   ascend = o.ascend;
   begun = o.begun;
+  keyed = o.keyed;
 }
 
 -- the same tables
@@ -121,6 +122,7 @@ keeps-more c store at tables i t fs k got lt dated sized has =
       dated = λ d is. le-trans d.modified c.clock at (o.dated d is) le;
       ascend = o.ascend;
       begun = o.begun;
+      keyed = o.keyed;
     })
 
 -- such facts may be added
@@ -148,8 +150,8 @@ front-kinds [] d e has = absurd has
 front-kinds (x ∷ xs) d e has = refl
 
 pub keeps-described : (c : ClusterState) (at : Time) (tables : List Table) (i : ℕ) (t : Table) (d e : Schema) → Keeps c tables → slice_get tables i ≡ Some t → time_lt c.clock at ≡ true → Has d t.descriptors
-    → e.id ≡ d.id → key_kinds e ≡ key_kinds d → e.modified ≡ at → Keeps (redated c (with_descriptor c.schemas i e) at) (slice_set tables i (described t e))
-keeps-described c at tables i t d e k got lt has id kinds on =
+    → e.id ≡ d.id → key_kinds e ≡ key_kinds d → e.key_columns ≡ d.key_columns → e.modified ≡ at → Keeps (redated c (with_descriptor c.schemas i e) at) (slice_set tables i (described t e))
+keeps-described c at tables i t d e k got lt has id kinds columns on =
     let u = described t e in
     let o = k.orderly i t got in
     let le : time_le c.clock at ≡ true = lt-le c.clock at lt in
@@ -174,8 +176,17 @@ keeps-described c at tables i t d e k got lt has id kinds on =
       dated = λ x is. elim (has-append_cases x t.descriptors (e ∷ []) is) [ inl old ↦ le-trans x.modified c.clock at (o.dated x old) le | inr new ↦ now x new ];
       ascend = ascend-more zero_time c.clock t.descriptors e (zero-le c.clock) o.ascend o.dated (subst (λ (x : Time). time_lt c.clock x ≡ true) (sym on) lt);
       begun = λ none. absurd (not-none t.descriptors e none);
+      keyed = λ x y hx hy. as-first x hx ∙ sym (as-first y hy);
     })
   where
+    -- each has the key columns of the one that is changed
+    as-first : (x : Schema) → Has x (t.descriptors ++ e ∷ []) → x.key_columns ≡ d.key_columns
+    as-first x is = elim (has-append_cases x t.descriptors (e ∷ []) is) [ inl old ↦ (k.orderly i t got).keyed x d old has | inr new ↦ as-new x new ]
+
+    as-new : (x : Schema) → Has x (e ∷ []) → x.key_columns ≡ d.key_columns
+    as-new x (inl is) = ap (λ (y : Schema). y.key_columns) is ∙ columns
+    as-new x (inr none) = absurd none
+
     now : (x : Schema) → Has x (e ∷ []) → time_le x.modified at ≡ true
     now x (inl is) = subst (λ (y : Schema). time_le y.modified at ≡ true) (sym is) (subst (λ (y : Time). time_le y at ≡ true) (sym on) (le-refl at))
     now x (inr none) = absurd none
@@ -199,7 +210,7 @@ keeps-raised c store g tables i t k got past has =
     (subst (HasRows (λ h. KeepsAll store.tables.entries h)) (sym (rows-raised tables i t u g got refl refl refl)) has)
     (same-accepted tables i 0 t u got (omega arith) ∙ (let zero : accepted tables + 0 ≡ accepted tables = omega arith in zero ∙ k.events))
     (le-refl c.clock)
-    (record { id_is = o.id_is; schemas = o.schemas; facts = o.facts; after = o.after; threshold = by (time_lt t.threshold g) o.threshold; sized = o.sized; dated = o.dated; ascend = o.ascend; begun = o.begun })
+    (record { id_is = o.id_is; schemas = o.schemas; facts = o.facts; after = o.after; threshold = by (time_lt t.threshold g) o.threshold; sized = o.sized; dated = o.dated; ascend = o.ascend; begun = o.begun; keyed = o.keyed })
   where
     by : (b : Bool) → time_le t.threshold c.clock ≡ true → time_le (cond b g t.threshold) c.clock ≡ true
     by true le = grind (arith, nat_tests, past)
@@ -231,6 +242,10 @@ keeps-new c at tables d k lt id on =
     now x (inl is) = subst (λ (y : Schema). time_le y.modified at ≡ true) (sym is) (subst (λ (y : Time). time_le y at ≡ true) (sym on) (le-refl at))
     now x (inr none) = absurd none
 
+    only : (x : Schema) → Has x (d ∷ []) → x ≡ d
+    only x (inl is) = is
+    only x (inr none) = absurd none
+
     first : IsOrderly at (100 + length tables) (new_table d)
     first = record {
       id_is = id;
@@ -242,6 +257,7 @@ keeps-new c at tables d k lt id on =
       dated = now;
       ascend = subst (λ (x : Time). ascend_after zero_time (record d { modified = x } ∷ []) ≡ true) (sym on) (and-true (time_lt zero_time at) (le-lt-lt zero_time c.clock at (zero-le c.clock) lt));
       begun = λ none. cc none;
+      keyed = λ x y hx hy. ap (λ (z : Schema). z.key_columns) (only x hx ∙ sym (only y hy));
     }
 
 -- ---- nothing yet
@@ -267,5 +283,5 @@ stands-empty name cluster events limit clock schemas store is keeps = record {
     orderly = λ i table got. cc got;
   };
   machine_is = ap (λ (s : Schemas). record { name = name; limits = record { events = events; tables = s.limit }; clock = clock; history = record { databases = s.databases; tables = [] }; layers = []; jobs = [] }) (sym is);
-  backups = record { backups = λ place r got. cc got; layers = λ p none. absurd none };
+  backups = record { backups = λ place r got. cc got; layers = λ p none. absurd none; scopes = λ q r none. absurd none };
 }

@@ -7,13 +7,14 @@ pub mod SchemaCommands
 pub mod Reading
 pub mod Versions
 pub mod Names
-pub mod FullLayers
 pub mod Backing
 pub mod Others
 pub mod Storing
+pub mod Increments
 pub mod BackingUp
 pub mod Sources
 pub mod Ending
+pub mod Latest
 pub mod Forgetting
 pub mod Here
 pub mod Replying

@@ -1,7 +1,6 @@
 -- What a call on one layer's objects leaves of another layer, and layers that are final.
 use Rattle.std.proofs.Common.{◌≡◌, ◌≢◌, inl, inr, ⊎_elim, ℕ, true, List, ◌∙◌, subst, sym}
 use Rattle.mvcc_keys.specs.Times.{Time, time_le}
-use Rattle.mvcc_keys.proofs.TimeOrder.{zero-le}
 use Rattle.history_model.specs.Histories.{Table}
 use Rattle.history_model.specs.Layers as recorded
 use Rattle.outside_world.specs.Disk.{View}
@@ -14,10 +13,9 @@ use Rattle.layer_model.specs.Layers.{HasPart, IsLayer, IsPartName, LayerObjects,
 use Rattle.layer_model.proofs.LayerLaws.{part_is_numbered}
 use Rattle.layer_model.proofs.StandsLaws.{one_object}
 use Rattle.collection_dir.specs.Safety.{with_manifest}
-use Rattle.layer_objects.specs.Objects.{objects_of}
-use Rattle.layer_objects.specs.Past.{AreBegun, KeepsPast}
-use Rattle.layer_objects.specs.Storable.{older_manifest}
-use Rattle.cluster_core.specs.FullLayers.{IsFull}
+use Rattle.layer_objects.specs.Objects.{bare, objects_of}
+use Rattle.layer_objects.specs.Past.{AreBegun, IsFinal, KeepsPast}
+use Rattle.layer_objects.specs.Storable.{IsRecord, older_manifest}
 use Rattle.layer_objects.proofs.Final.{layers-final}
 use Rattle.machine_model.specs.Disks.{IsGone, IsThere}
 use Rattle.cluster_core.specs.ClusterView.{ClusterState}
@@ -58,6 +56,14 @@ same-of-other v w a b P R puts removals changes tells fv fw nv nw other part has
 pub begun : (c : ClusterState) (tables : List Table) → Keeps c tables → AreBegun tables
 begun c tables k i table got = let o = k.orderly i table got in record { some = o.begun; ascend = o.ascend }
 
--- the objects of a full layer are the same over later tables
-pub final : (c : ClusterState) (tables new : List Table) (t : Time) (r : recorded.LayerRecord) → Keeps c tables → KeepsPast t tables new → IsFull r → time_le r.end t ≡ true → objects_of new r ≡ objects_of tables r
-final c tables new t r k past full le = (layers-final t tables new r (begun c tables k) past (subst (λ (u : Time). time_le u r.end ≡ true) (sym full.floor) (zero-le r.end)) le).objects
+-- a layer is the same over later tables
+is-final : (c : ClusterState) (tables new : List Table) (t : Time) (r : recorded.LayerRecord) → Keeps c tables → KeepsPast t tables new → IsRecord r → time_le r.end t ≡ true → IsFinal r tables new
+is-final c tables new t r k past form le = layers-final t tables new r (begun c tables k) past form.upto le
+
+-- it has the same objects
+pub final : (c : ClusterState) (tables new : List Table) (t : Time) (r : recorded.LayerRecord) → Keeps c tables → KeepsPast t tables new → IsRecord r → time_le r.end t ≡ true → objects_of new r ≡ objects_of tables r
+final c tables new t r k past form le = (is-final c tables new t r k past form le).objects
+
+-- and lists the same descriptors
+pub final-bare : (c : ClusterState) (tables new : List Table) (t : Time) (r : recorded.LayerRecord) → Keeps c tables → KeepsPast t tables new → IsRecord r → time_le r.end t ≡ true → bare new r ≡ bare tables r
+final-bare c tables new t r k past form le = (is-final c tables new t r k past form le).bare

@@ -113,7 +113,7 @@ module _ (name : List ℕ × List ℕ) (change : Change) where
       let same : w.table.id ≡ id = o.id_is ∙ sym w.id_is in
       let new = redated c (with_descriptor c.schemas (id - 100) e) t in
       rw (is, version-is) (does new _ (TableChanged id (d.version + 1) t) _
-      (rw place (keeps-described c t tables w.place w.table d e k w.got (next-later c.clock t draw) (in_force-has w.table.descriptors t d w.force) refl (kinds-kept d change t proper (fine-change c.schemas t d change fine)) refl))
+      (rw place (keeps-described c t tables w.place w.table d e k w.got (next-later c.clock t draw) (in_force-has w.table.descriptors t d w.force) refl (kinds-kept d change t proper (fine-change c.schemas t d change fine)) refl refl))
       (reach c tables t id d draw k w ∙ (passes m (offline_refusal name d) _ _ public ∙ (passes m (catalog_refusal (change_fault c.schemas t d change)) [] _ (ap catalog_refusal fine)
       ∙ ap (λ (i : ℕ). answered (with_described m (found_by name tables t id d w) e) (TableChanged i (d.version + 1) t)) same))))
 
@@ -153,6 +153,6 @@ module _ (name : List ℕ × List ℕ) where
       let same : w.table.id ≡ id = o.id_is ∙ sym w.id_is in
       let new = redated c (with_descriptor c.schemas (id - 100) e) t in
       rw is (does new _ (TableChanged id (d.version + 1) t) _
-      (rw place (keeps-described c t tables w.place w.table d e k w.got (next-later c.clock t draw) (in_force-has w.table.descriptors t d w.force) refl (kinds-kept d (Become Dropped) t proper refl) refl))
+      (rw place (keeps-described c t tables w.place w.table d e k w.got (next-later c.clock t draw) (in_force-has w.table.descriptors t d w.force) refl (kinds-kept d (Become Dropped) t proper refl) refl refl))
       (dropped-reach c tables t id d draw k w ∙ (passes m (catalog_refusal (drop_fault c.schemas t (id ∷ []))) [] _ (ap catalog_refusal fine)
       ∙ ap (λ (i : ℕ). answered (with_described m (record { place = w.place; table = w.table; schema = d }) e) (TableChanged i (d.version + 1) t)) same)))

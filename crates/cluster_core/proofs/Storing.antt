@@ -1,9 +1,8 @@
--- A full layer that is written over a ready disk: what the cluster and the disk are afterwards.
+-- A layer that is written over a ready disk: what the cluster and the disk are afterwards.
 use Rattle.std.proofs.Common.{◌≡◌, ◌≢◌, ◌⊎◌, inl, inr, ⊎_elim, ℕ, zero, suc, ◌<◌, ◌≤◌, true, false, true≢false, List, [], ◌∷◌, ◌++◌, map, length, Some, slice_get, refl, sym, ap, subst, ◌∙◌, arith, Contains, Result}
 use Rattle.std.specs.Prelude.{IfErr}
 use Rattle.std.proofs.lemmas.List.{map-append}
-use Rattle.mvcc_keys.specs.Times.{Time, time_le}
-use Rattle.table_descriptors.specs.declared.scopes.Scope.{Scope}
+use Rattle.mvcc_keys.specs.Times.{Time, time_le, time_lt}
 use Rattle.list_laws.specs.Members.{Has}
 use Rattle.list_laws.proofs.Members.{has-append_cases, map-has}
 use Rattle.mvcc_keys.proofs.TimeOrder.{le-refl, le-trans}
@@ -34,13 +33,15 @@ use Rattle.layer_objects.proofs.Writable.{first-manifest, manifests-tell}
 use Rattle.machine_model.specs.Machine.{Backup, Machine, Stepped, answered}
 use Rattle.machine_model.specs.Machine as machine
 use Rattle.machine_model.specs.Past.{IsLater}
-use Rattle.machine_model.specs.Backups.{backup_done, full_layer, with_backup as with_made}
+use Rattle.machine_model.specs.declared.extents.Extent.{Extent}
+use Rattle.machine_model.specs.Backups.{backup_done, end_refusal, layer_record, plan_refusal, with_backup as with_made}
 use Rattle.machine_model.specs.Disks.{IsGone, IsReady, IsThere, StandsUntil, made_layers, setting_of}
 use Rattle.machine_model.proofs.DiskLaws.{ready_images}
+use Rattle.machine_model.proofs.Passing.{end-after, first-passed}
 use Rattle.machine_model.proofs.Settings.{is-made, settings-proper}
 use Rattle.cluster_core.specs.ClusterView.{ClusterState, record_of}
-use Rattle.cluster_core.specs.Standing.{HasBackups, IsBooked, IsOwnBackup, Keeps, StandsFor, machine_of}
-use Rattle.cluster_core.specs.Backing.{IsFullJob, done_of, with_backup, with_job}
+use Rattle.cluster_core.specs.Standing.{AreOfOneScope, HasBackups, IsBooked, IsOwnBackup, Keeps, StandsFor, machine_of}
+use Rattle.cluster_core.specs.Backing.{IsBackupJob, IsOfScopeOf, done_of, with_backup, with_job}
 use Rattle.cluster_core.proofs.Kept.{keeps-as}
 use Rattle.machine_model.proofs.Lists.{got-push}
 use Rattle.cluster_core.proofs.Others.{IsSameOf, final, same-of-other, still-gone, still-there}
@@ -72,39 +73,51 @@ one-only x y (inr none) = absurd none
 same-backup : (q r : recorded.LayerRecord) → Backup q ≡ Backup r → q ≡ r
 same-backup q r e = cc e
 
+-- ---- scopes
+
+-- one more record, of the scope of those of its subdirectory
+one-scope-more : (rs : List recorded.LayerRecord) (r : recorded.LayerRecord) → AreOfOneScope rs → ((q : recorded.LayerRecord) → Has q rs → q.collection ≡ r.collection → q.full ≡ r.full → q.scope ≡ r.scope) → AreOfOneScope (rs ++ r ∷ [])
+one-scope-more rs r all its p q hp hq collection full = by (has-append_cases p rs (r ∷ []) hp) (has-append_cases q rs (r ∷ []) hq)
+  where
+    by : (Has p rs ⊎ Has p (r ∷ [])) → (Has q rs ⊎ Has q (r ∷ [])) → p.scope ≡ q.scope
+    by (inl old) (inl also) = all p q old also collection full
+    by (inl old) (inr new) = let is = one-only q r new in its p old (collection ∙ ap (λ (x : recorded.LayerRecord). x.collection) is) (full ∙ ap (λ (x : recorded.LayerRecord). x.full) is) ∙ ap (λ (x : recorded.LayerRecord). x.scope) (sym is)
+    by (inr new) (inl old) = let is = one-only p r new in ap (λ (x : recorded.LayerRecord). x.scope) is ∙ sym (its q old (sym collection ∙ ap (λ (x : recorded.LayerRecord). x.collection) is) (sym full ∙ ap (λ (x : recorded.LayerRecord). x.full) is))
+    by (inr new) (inr also) = ap (λ (x : recorded.LayerRecord). x.scope) (one-only p r new ∙ sym (one-only q r also))
+
 -- ---- the cluster
 
 -- the record that a job for this layer keeps
-pub record-is : (c : ClusterState) (tables : List Table) (collection : List ℕ) (scope : Scope) (end : Time) (job : Job) → IsFullJob (machine_of c tables) collection scope end job → (next : Job) → IsSameJob (bytes_of (rows_of tables)) job next
-    → record_of (next.name, next.manifest) ≡ full_layer (machine_of c tables) collection scope end
+pub record-is : (c : ClusterState) (tables : List Table) (extent : Extent) (last : Time) (job : Job) → IsBackupJob (machine_of c tables) extent last job → (next : Job) → IsSameJob (bytes_of (rows_of tables)) job next
+    → record_of (next.name, next.manifest) ≡ layer_record (machine_of c tables) extent
 unfolding plan_of
-record-is c tables collection scope end job j next same =
+record-is c tables extent last job j next same =
     let h = bytes_of (rows_of tables) in
     ap (λ (n : LayerName). record_of (n, next.manifest)) same.name
     ∙ (ap (λ (m : Manifest). record_of (job.name, m)) same.manifest ∙ ap (λ (x : Job). record_of (x.name, completed h x)) j.is)
 
-module _ (c : ClusterState) (tables : List Table) (k : Keeps c tables) (b : HasBackups c tables) (collection : List ℕ) (scope : Scope) (end clock : Time) (within : time_le end clock ≡ true) (on : time_le c.clock clock ≡ true)
-    (job : Job) (j : IsFullJob (machine_of c tables) collection scope end job) (next : Job) (same : IsSameJob (bytes_of (rows_of tables)) job next) where
+module _ (c : ClusterState) (tables : List Table) (k : Keeps c tables) (b : HasBackups c tables) (extent : Extent) (last clock : Time) (within : time_le extent.end clock ≡ true) (on : time_le c.clock clock ≡ true)
+    (job : Job) (j : IsBackupJob (machine_of c tables) extent last job) (next : Job) (same : IsSameJob (bytes_of (rows_of tables)) job next) where
   abbrev h : Tables
   h = bytes_of (rows_of tables)
 
   abbrev r : recorded.LayerRecord
-  r = full_layer (machine_of c tables) collection scope end
+  r = layer_record (machine_of c tables) extent
 
   abbrev dated : ClusterState
   dated = record c { clock = clock }
 
   is-record : record_of (next.name, next.manifest) ≡ r
-  is-record = record-is c tables collection scope end job j next same
+  is-record = record-is c tables extent last job j next same
 
   keeps-dated : Keeps dated tables
   keeps-dated = keeps-as c dated tables k refl refl refl on
 
   own : IsOwnBackup (with_job dated next) tables (length c.jobs) r
-  own = record { number = refl; cluster = refl; full = j.full; over = within; few = j.may.few }
+  own = record { number = refl; cluster = refl; is = j.form; version = refl; over = within; few = j.may.few; listed = j.listed }
 
   still-own : (place : ℕ) (q : recorded.LayerRecord) → IsOwnBackup c tables place q → IsOwnBackup (with_job dated next) tables place q
-  still-own place q o = record { number = o.number; cluster = o.cluster; full = o.full; over = le-trans q.end c.clock clock o.over on; few = o.few }
+  still-own place q o = record { number = o.number; cluster = o.cluster; is = o.is; version = o.version; over = le-trans q.end c.clock clock o.over on; few = o.few; listed = o.listed }
 
   jobs-are : (with_job dated next).jobs ≡ c.jobs ++ Backup r ∷ []
   jobs-are = ap (λ (q : recorded.LayerRecord). c.jobs ++ Backup q ∷ []) is-record
@@ -124,8 +137,11 @@ module _ (c : ClusterState) (tables : List Table) (k : Keeps c tables) (b : HasB
     tables = tables;
     keeps = keeps-as dated (with_job dated next) tables keeps-dated refl refl refl (le-refl clock);
     machine_is = ap (λ (xs : List machine.Job). record (machine_of c tables) { clock = clock; jobs = xs }) (sym jobs-are);
-    backups = record { backups = backups; layers = λ p has. booked p (b.layers p has) };
+    backups = record { backups = backups; layers = λ p has. booked p (b.layers p has); scopes = b.scopes };
   }
+
+  after : time_lt last extent.end ≡ true
+  after = end-after extent.end last (first-passed (end_refusal extent.end last) (plan_refusal (machine_of c tables) extent ∷ []) j.passed).0
 
   module _ (whole : next.manifest ≡ completed h job) where
     manifest-is : next.manifest ≡ manifest_of tables r
@@ -148,18 +164,22 @@ module _ (c : ClusterState) (tables : List Table) (k : Keeps c tables) (b : HasB
     layers : (p : LayerName × Manifest) → Has p (with_backup dated next).book.layers → IsBooked (with_job dated next).jobs tables p
     layers p has = ⊎_elim (λ (old : Has p c.book.layers). booked p (b.layers p old)) (λ (new : Has p ((next.name, next.manifest) ∷ [])). subst (IsBooked (with_job dated next).jobs tables) (sym (one-only p _ new)) new-booked) (has-append_cases p c.book.layers _ has)
 
+    -- the own layers of the subdirectory have its scope, and so has it
+    all-scopes : (time_lt last extent.end ≡ true → IsOfScopeOf c.book extent) → AreOfOneScope (map record_of (with_backup dated next).book.layers)
+    all-scopes scopes = subst AreOfOneScope (sym (map-append record_of c.book.layers _ ∙ ap (λ (q : recorded.LayerRecord). map record_of c.book.layers ++ q ∷ []) is-record)) (one-scope-more (map record_of c.book.layers) r b.scopes (scopes after))
+
     machine-is : with_made (machine_of c tables) clock r ≡ machine_of (with_backup dated next) tables
     machine-is =
         ap (λ (q : recorded.LayerRecord). record (machine_of c tables) { clock = clock; layers = map record_of c.book.layers ++ q ∷ []; jobs = c.jobs ++ Backup q ∷ [] }) (sym is-record)
         ∙ ap (λ (qs : List recorded.LayerRecord). record (machine_of c tables) { clock = clock; layers = qs; jobs = c.jobs ++ Backup (record_of (next.name, next.manifest)) ∷ [] }) (sym (map-append record_of c.book.layers _))
 
     -- a job that is done adds its layer
-    pub made : StandsFor (with_backup dated next) (with_made (machine_of c tables) clock r)
-    made = record {
+    pub made : (time_lt last extent.end ≡ true → IsOfScopeOf c.book extent) → StandsFor (with_backup dated next) (with_made (machine_of c tables) clock r)
+    made scopes = record {
       tables = tables;
       keeps = keeps-as dated (with_backup dated next) tables keeps-dated refl refl refl (le-refl clock);
       machine_is = machine-is;
-      backups = record { backups = λ place q got. (let o = backups place q got in record { number = o.number; cluster = o.cluster; full = o.full; over = o.over; few = o.few }); layers = layers };
+      backups = record { backups = λ place q got. (let o = backups place q got in record { number = o.number; cluster = o.cluster; is = o.is; version = o.version; over = o.over; few = o.few; listed = o.listed }); layers = layers; scopes = all-scopes scopes };
     }
 
     pub answer-is : done_of next.name next.manifest ≡ backup_done r (manifest_of tables r)
@@ -187,7 +207,7 @@ past tables new q is few named = record {
 
 -- the backups of a cluster on its way to an end
 pub past-backup : (c : ClusterState) (tables new : List Table) (t : Time) → Keeps c tables → KeepsPast t tables new → time_le c.clock t ≡ true → (place : ℕ) (q : recorded.LayerRecord) → IsOwnBackup c tables place q → IsPast tables new q
-past-backup c tables new t k kept on place q o = past tables new q (final c tables new t q k kept o.full (le-trans q.end c.clock t o.over on)) o.few o.full.name
+past-backup c tables new t k kept on place q o = past tables new q (final c tables new t q k kept o.is (le-trans q.end c.clock t o.over on)) o.few o.is.name
 
 -- where only names of one layer changed, those of a backup of another number are as before
 pub same-backups : (tables new : List Table) (q : recorded.LayerRecord) (w : LayerObjects) (a b : View) (P R : List ℕ → Type 0) → IsPast tables new q → ((n : List ℕ) → P n → IsPartName w n) → ((n : List ℕ) → R n → IsPartName w n) → ChangesOnly P R a b
@@ -202,20 +222,20 @@ own-place c tables b q has =
     let p = has-place (Backup (record_of m.0)) c.jobs (b.layers m.0 m.1).among in
     (p.0, p.1 ∙ ap (λ (x : recorded.LayerRecord). Some (Backup x)) (sym m.2), p.2)
 
-module _ (c : ClusterState) (tables : List Table) (k : Keeps c tables) (b : HasBackups c tables) (collection : List ℕ) (scope : Scope) (end clock : Time) (within : time_le end clock ≡ true) (on : time_le c.clock clock ≡ true)
-    (job : Job) (j : IsFullJob (machine_of c tables) collection scope end job) (to : Machine) (first : View) (ready : IsReady (Some (machine_of c tables)) (Some to) first)
-    (later : IsLater (with_made (machine_of c tables) clock (full_layer (machine_of c tables) collection scope end)) to) where
+module _ (c : ClusterState) (tables : List Table) (k : Keeps c tables) (b : HasBackups c tables) (extent : Extent) (last clock : Time) (within : time_le extent.end clock ≡ true) (on : time_le c.clock clock ≡ true)
+    (job : Job) (j : IsBackupJob (machine_of c tables) extent last job) (to : Machine) (first : View) (ready : IsReady (Some (machine_of c tables)) (Some to) first)
+    (later : IsLater (with_made (machine_of c tables) clock (layer_record (machine_of c tables) extent)) to) where
   abbrev store : Tables
   store = bytes_of (rows_of tables)
 
   abbrev made-record : recorded.LayerRecord
-  made-record = full_layer (machine_of c tables) collection scope end
+  made-record = layer_record (machine_of c tables) extent
 
   abbrev new-layer : LayerObjects
   new-layer = objects_of tables made-record
 
   new-past : IsPast tables to.history.tables made-record
-  new-past = past tables to.history.tables made-record (final c tables to.history.tables clock made-record k later.tables j.full within) j.may.few j.full.name
+  new-past = past tables to.history.tables made-record (final c tables to.history.tables clock made-record k later.tables j.form within) j.may.few j.form.name
 
   got-new : slice_get to.jobs (length c.jobs) ≡ Some (Backup made-record)
   got-new = ap (λ xs. slice_get xs (length c.jobs)) later.jobs ∙ got-end c.jobs later.more (Backup made-record)
@@ -261,7 +281,7 @@ module _ (c : ClusterState) (tables : List Table) (k : Keeps c tables) (b : HasB
         let n = o.number in
         let m = ap (λ (x : LayerName). x.job) (objects-name tables made-record) in
         same-backups tables to.history.tables q new-layer first now (IsPartName new-layer) NoName (past-backup c tables to.history.tables clock k later.tables on place q o) (λ x p. p) (λ x no. absurd no) changes ready.known.tells j.may.few
-        (subst IsLayerName (sym (objects-name tables made-record)) j.full.name) (λ e. omega (arith, n, m, e, lt))
+        (subst IsLayerName (sym (objects-name tables made-record)) j.form.name) (λ e. omega (arith, n, m, e, lt))
 
     pub done-ready : IsWritten older_manifest new-layer now → IsSettled now → StandsUntil (Some to) now.objects → IsReady (Some (with_made (machine_of c tables) clock made-record)) (Some to) now
     done-ready done settled stands = record { known = done.known; settled = settled; stands = stands; kept = record { there = there; gone = gone } }

@@ -1,14 +1,17 @@
 -- What the steps of BACKUP and of FORGET find and leave.
-use Rattle.std.specs.Prelude.{◌≡◌, ℕ, List, [], ◌∷◌, ◌++◌, Option, Some, None, Result, Ok, Err}
-use Rattle.mvcc_keys.specs.Times.{Time, next, time_lt}
-use Rattle.table_descriptors.specs.declared.scopes.Scope.{Scope}
+use Rattle.std.specs.Prelude.{◌≡◌, ◌⊎◌, ℕ, true, List, [], ◌∷◌, ◌++◌, map, Option, Some, None, Result, Ok, Err}
+use Rattle.std.specs.List.{AllByRecursion}
+use Rattle.mvcc_keys.specs.Times.{Time, next, time_le, time_lt}
+use Rattle.list_laws.specs.Members.{Has}
+use Rattle.history_model.specs.Layers.{LayerRecord}
 use Rattle.layer_manifest.specs.declared.manifest.Manifest.{Manifest}
-use Rattle.layer_manifest.specs.Manifests.{chunk_count, entry_count}
+use Rattle.layer_manifest.specs.declared.manifest.TablePart.{TablePart}
+use Rattle.layer_manifest.specs.Manifests.{IsProperScope, chunk_count, entry_count}
 use Rattle.layer_model.specs.declared.names.LayerName.{LayerName}
 use Rattle.backup_job.specs.Jobs.{Job}
 use Rattle.backup_job.specs.Records.{WritesLayer, job_of}
-use Rattle.layer_objects.specs.Storable.{MayBeWritten}
-use Rattle.cluster_core.specs.FullLayers.{IsFull}
+use Rattle.layer_objects.specs.Objects.{bare}
+use Rattle.layer_objects.specs.Storable.{AreListable, IsRecord, MayBeWritten}
 use Rattle.layer_book.specs.Books.{Book, name_in, with_layer}
 use Rattle.layer_book.specs.Subdirectories.{layers_of, subdirectories_of}
 use Rattle.script_grammar.specs.declared.backups.Src.{Src}
@@ -18,7 +21,8 @@ use Rattle.reply_texts.specs.declared.answers.Answer.{Answer}
 use Rattle.reply_texts.specs.declared.answers.Answer.TheVariants.{BackupDone}
 use Rattle.machine_model.specs.Machine as machine
 use Rattle.machine_model.specs.Machine.{Machine, first_refusal, refusal_if}
-use Rattle.machine_model.specs.Backups.{end_refusal, full_layer, plan_refusal, source_among}
+use Rattle.machine_model.specs.declared.extents.Extent.{Extent}
+use Rattle.machine_model.specs.Backups.{end_refusal, layer_record, plan_refusal, source_among}
 use Rattle.cluster_core.specs.declared.halts.Halt.{Halt}
 use Rattle.cluster_core.specs.declared.halts.Halt.TheVariants.{Refused, Disk, Memory}
 use Rattle.cluster_core.specs.ClusterView.{ClusterState, record_of}
@@ -38,17 +42,29 @@ IsEndingFault clock (Some t) e = RefusedBy e (refusal_if (time_lt clock t) (Futu
 
 -- ---- the job of a backup
 
--- the first test that refuses a full layer
-abbrev pub layer_refusal : Machine → List ℕ → Scope → Time → Option Refusal
-layer_refusal m collection scope end = first_refusal (end_refusal m collection end ∷ plan_refusal m scope end ∷ [])
+-- the first test that refuses a layer
+abbrev pub layer_refusal : Machine → Extent → Time → Option Refusal
+layer_refusal m x last = first_refusal (end_refusal x.end last ∷ plan_refusal m x ∷ [])
 
--- a job for a full layer that no test refuses; it may run, and writes the layer
-pub record IsFullJob (m : Machine) (collection : List ℕ) (scope : Scope) (end : Time) (job : Job) : Type 0 where
-  pub passed : layer_refusal m collection scope end ≡ None
-  pub is : job ≡ job_of m.history.tables (full_layer m collection scope end)
-  pub full : IsFull (full_layer m collection scope end)
-  pub may : MayBeWritten m.history.tables (full_layer m collection scope end)
-  pub writes : WritesLayer m.history.tables (full_layer m collection scope end)
+-- A layer that is to go on after the last end: its scope is a proper one, its start isn't after that end, and its full backup is itself or one
+-- that doesn't end after it.
+pub record IsNext (x : Extent) (last : Time) : Type 0 where
+  pub scope : IsProperScope x.scope
+  pub from : time_le x.start last ≡ true
+  pub full : (x.full ≡ x.end) ⊎ (time_le x.full last ≡ true)
+
+-- the own layers of the subdirectory have the scope
+abbrev pub IsOfScopeOf : Book → Extent → Type 0
+IsOfScopeOf book x = (r : LayerRecord) → Has r (map record_of book.layers) → r.collection ≡ x.collection → r.full ≡ x.full → r.scope ≡ x.scope
+
+-- a job for a layer that no test refuses; it may run, and writes the layer
+pub record IsBackupJob (m : Machine) (x : Extent) (last : Time) (job : Job) : Type 0 where
+  pub passed : layer_refusal m x last ≡ None
+  pub is : job ≡ job_of m.history.tables (layer_record m x)
+  pub form : IsRecord (layer_record m x)
+  pub listed : AllByRecursion (λ (t : TablePart). AreListable t.descriptors) (bare m.history.tables (layer_record m x)).tables
+  pub may : MayBeWritten m.history.tables (layer_record m x)
+  pub writes : WritesLayer m.history.tables (layer_record m x)
 
 -- what a backup that is done is answered
 abbrev pub done_of : LayerName → Manifest → Answer

@@ -9,7 +9,7 @@ use Rattle.outside_world.specs.Moments.{ChangesOnly, LeavesOnly}
 use Rattle.layer_model.specs.Names.{IsOwnName}
 use Rattle.collection_dir.specs.Standing.{KeepManifests}
 use Rattle.command_lang.specs.declared.command.Command.{Command}
-use Rattle.command_lang.specs.declared.command.Command.TheVariants.{BackupDatabase, BackupTables, Forget, RestoreDatabase}
+use Rattle.command_lang.specs.declared.command.Command.TheVariants.{BackupDatabase, BackupLatest, BackupTables, Forget, RestoreDatabase}
 use Rattle.machine_model.specs.Disks.{IsDone, IsIdle, IsReady, StandsUntil, made_layers}
 use Rattle.machine_model.specs.Machine.{Machine, Stepped}
 use Rattle.cluster_core.specs.declared.fault.RunFault.{RunFault}
@@ -50,8 +50,9 @@ pub record Steps (c : ClusterState) (s : Stepped) (end : Machine) (result : Resu
 
 -- a command that may call the disk
 abbrev pub is_of_disk : Command → Bool
-is_of_disk (BackupDatabase database collection at) = true
-is_of_disk (BackupTables tables collection at) = true
+is_of_disk (BackupDatabase database collection at history) = true
+is_of_disk (BackupTables tables collection at history) = true
+is_of_disk (BackupLatest collection at history) = true
 is_of_disk (RestoreDatabase database source collection at name) = true
 is_of_disk (Forget source collection start end) = true
 is_of_disk c = false

@@ -1,21 +1,22 @@
 //! The commands on backups.
-ghost use Rattle.std.specs.Prelude.{◌≡◌, ◌≤◌, ℕ, ◌<◌, ◌+◌, ◌^◌, true, false, None, [], List, length, IfOk, IfErr, OnOk};
-ghost use Rattle.std.specs.List.{find};
+ghost use Rattle.std.specs.Prelude.{◌≡◌, ◌≤◌, ℕ, ◌<◌, ◌+◌, ◌^◌, true, None, [], List, length, map, IfOk, IfErr, OnOk};
+ghost use Rattle.std.specs.List.{AllByRecursion, find};
 ghost use Rattle.std.specs.Option.{option_copied};
-ghost use Rattle.mvcc_keys.specs.Times.{IsTime, time_le, zero_time};
+ghost use Rattle.mvcc_keys.specs.Times.{IsTime, time_le, time_lt, zero_time};
 ghost use Rattle.history_model.specs.Histories.{Table, schemas_of};
 ghost use Rattle.outside_world.specs.Moments.{ChangesOnly};
 ghost use Rattle.collection_dir.specs.Faults.{CountsAs, IsDiskFault};
 ghost use Rattle.introduced_spans.specs.Spans.{plan_fault, threshold_of};
+ghost use Rattle.layer_manifest.specs.declared.manifest.TablePart.{TablePart};
 ghost use Rattle.layer_manifest.specs.Manifests.{IsProperScope, chunk_count};
 ghost use Rattle.layer_objects.specs.Objects.{by_id, name_of_record, plan_of, table_threshold};
-ghost use Rattle.reply_texts.specs.declared.refusals.Refusal.TheVariants.{EndNotAfter};
-ghost use Rattle.machine_model.specs.Machine.{Machine, refusal_if};
-ghost use Rattle.machine_model.specs.Backups.{backup_database, backup_tables, forget, full_backup, full_layer, is_between_times, is_subdirectory, show_backups, source_among};
+ghost use Rattle.script_grammar.specs.declared.backups.Src.TheVariants.{Latest};
+ghost use Rattle.machine_model.specs.Machine.{Machine};
+ghost use Rattle.machine_model.specs.Backups.{backup, backup_database, backup_latest, backup_tables, end_refusal, forget, full_backup, increment_after, is_between_times, is_subdirectory, last_end, layer_record, show_backups, source_among};
 ghost use Rattle.cluster_core.specs.ClusterView.{record_of};
 ghost use Rattle.layer_model.specs.Names.{IsLayerName, IsOwnName};
 ghost use Rattle.cluster_core.specs.Standing.{Does, HaltCounts, HaltHasCause, Keeps, MayStep, RefusedBy, Runs, StandsFor, machine_of};
-ghost use Rattle.cluster_core.specs.Backing.{AreLayersFrom, IsEnding, IsEndingFault, IsFullJob, IsSourceFault, StandsStill, done_of, layer_refusal, with_backup, with_job};
+ghost use Rattle.cluster_core.specs.Backing.{AreLayersFrom, IsBackupJob, IsEnding, IsEndingFault, IsNext, IsOfScopeOf, IsSourceFault, StandsStill, done_of, layer_refusal, with_backup, with_job};
 ghost use Rattle.cluster_core.specs.Halting.{halt_of_dir};
 ghost use Rattle.reply_texts.specs.declared.refusals.Refusal.{Refusal};
 
@@ -28,9 +29,10 @@ use crate::jobs::{Job, push_job};
 use backup_job::BackupJob;
 use collection_dir::{DirFault, forget_layer};
 use introduced_spans::{LayerPlan, Threshold, plan_layer};
-use layer_manifest::{Manifest, chunk_count, entry_count};
+use layer_manifest::{Manifest, TablePart, chunk_count, entry_count};
 use layer_model::LayerName;
-use mvcc_keys::{Hlc, Items, Memory};
+use machine_model::Extent;
+use mvcc_keys::{Hlc, Items, Memory, latest, time_or_zero};
 use outside_world::Disk;
 use reply_texts::{Answer, Refusal};
 use script_grammar::Src;
@@ -41,13 +43,12 @@ use version_store::Versions;
 /// The end of a backup, which is given or drawn, and the clock after it.
 fn end_of(clock: Hlc, at: Option<Hlc>) -> Result<(Hlc, Hlc), Halt>
     ensures ending { IfOk result (IsEnding clock at) }
-    ensures time { IfOk result (λ x. IsTime x.0) }
+    ensures within { IfOk result (λ x. (time_le x.0 x.1 ≡ true) × (time_le clock x.1 ≡ true)) }
     ensures fault { IfErr result (IsEndingFault clock at) }
 {
     match at {
         Some(end) => {
             check_past(clock, end)?;
-            is_time(end);
             Ok((end, clock))
         }
         None => {
@@ -59,8 +60,8 @@ fn end_of(clock: Hlc, at: Option<Hlc>) -> Result<(Hlc, Hlc), Halt>
 
 /// Refuses an end that isn't after the last one.
 fn check_end(end: Hlc, last: Hlc) -> Result<(), Halt>
-    ensures passed { OnOk result (refusal_if (time_le end last) (EndNotAfter end last) ≡ None) }
-    ensures refused { IfErr result (λ e. RefusedBy e (refusal_if (time_le end last) (EndNotAfter end last))) }
+    ensures passed { OnOk result (end_refusal end last ≡ None) }
+    ensures refused { IfErr result (λ e. RefusedBy e (end_refusal end last)) }
 {
     if end <= last {
         return Err(Halt::Refused(Refusal::EndNotAfter { end, last }));
@@ -91,6 +92,31 @@ fn copy_layer(alloc: Global, job: &BackupJob) -> Result<(LayerName, Manifest), M
 {
     let layer = job.layer().copy(alloc)?;
     Ok((layer, job.manifest().copy(alloc)?))
+}
+
+/// The number of a table's descriptors is that of a list in memory.
+fn is_counted(part: &TablePart)
+    ensures { length part.now.descriptors < 2 ^ 64 }
+{
+    let _ = part.descriptors.len();
+}
+
+/// The same of each table of a manifest. It is called for the proof alone, which has to know that
+/// the manifest can be spelled.
+fn are_counted(m: &Manifest)
+    ensures { AllByRecursion (λ (part : TablePart). length part.descriptors < 2 ^ 64) m.now.tables }
+{
+    for part in m.tables.as_slice() {
+        is_counted(part);
+    }
+}
+
+/// The greatest end of some layers, or zero.
+fn last_end(alloc: Global, layers: &[(LayerName, Manifest)]) -> Result<Hlc, Memory>
+    ensures { IfOk result (λ t. t ≡ last_end (map record_of layers.now)) }
+{
+    let ends: Vec<Hlc> = layers.iter().map(|entry| entry.0.end).collect(alloc)?;
+    Ok(time_or_zero(latest(&ends)))
 }
 
 // ---- layers of a source
@@ -154,57 +180,61 @@ impl Cluster {
         Ok(thresholds)
     }
 
-    /// The plan of a full layer, where its end is after the last one and nothing of it was
-    /// collected.
-    fn full_plan(&self, collection: &Name, scope: &Scope, end: Hlc) -> Result<LayerPlan, Halt>
-        ensures plan { IfOk result (λ plan. (tables : List Table) → Keeps self.now tables → plan ≡ plan_of tables (full_layer (machine_of self.now tables) collection.now scope.now end)) }
+    /// The plan of a layer, where its end is after the last one and nothing of it was collected.
+    fn layer_plan(&self, extent: &Extent, last: Hlc) -> Result<LayerPlan, Halt>
+        ensures plan { IfOk result (λ plan. (tables : List Table) → Keeps self.now tables → plan ≡ plan_of tables (layer_record (machine_of self.now tables) extent.now)) }
+        ensures floor { IfOk result (λ plan. IsTime plan.floor) }
         ensures few { OnOk result (100 + length self.now.schemas.tables ≤ 2 ^ 32) }
-        ensures allowed { OnOk result ((tables : List Table) → Keeps self.now tables → plan_fault (schemas_of tables) scope.now zero_time end false (by_id zero_time table_threshold tables) ≡ None) }
-        ensures passed { OnOk result ((tables : List Table) → Keeps self.now tables → layer_refusal (machine_of self.now tables) collection.now scope.now end ≡ None) }
-        ensures refused { IfErr result (λ e. (tables : List Table) → Keeps self.now tables → RefusedBy e (layer_refusal (machine_of self.now tables) collection.now scope.now end)) }
+        ensures allowed { OnOk result ((tables : List Table) → Keeps self.now tables → plan_fault (schemas_of tables) extent.now.scope extent.now.start extent.now.end extent.now.history (by_id zero_time table_threshold tables) ≡ None) }
+        ensures passed { OnOk result ((tables : List Table) → Keeps self.now tables → layer_refusal (machine_of self.now tables) extent.now last ≡ None) }
+        ensures refused { IfErr result (λ e. (tables : List Table) → Keeps self.now tables → RefusedBy e (layer_refusal (machine_of self.now tables) extent.now last)) }
     {
-        check_end(end, self.book.last_full(collection))?;
+        check_end(extent.end, last)?;
         let thresholds = self.thresholds()?;
         let plan = plan_layer(
             self.alloc,
             &self.catalog,
-            scope,
-            Hlc::zero(),
-            end,
-            false,
+            &extent.scope,
+            extent.start,
+            extent.end,
+            extent.history,
             &thresholds,
         )?;
+        is_time(plan.floor);
         Ok(plan)
     }
 
     /// The name of the layer that the next job makes.
-    fn full_name(&self, collection: &Name, end: Hlc) -> Result<LayerName, Memory>
-        requires time { IsTime end }
+    fn layer_name(&self, extent: &Extent) -> Result<LayerName, Memory>
         requires room { length self.now.jobs < 4294967295 }
-        ensures name { IfOk result (λ n. (tables : List Table) (scope : Scope) → n ≡ name_of_record (full_layer (machine_of self.now tables) collection.now scope end)) }
+        ensures name { IfOk result (λ n. (tables : List Table) → n ≡ name_of_record (layer_record (machine_of self.now tables) extent.now)) }
         ensures form { IfOk result IsLayerName }
     {
+        is_time(extent.full);
+        is_time(extent.start);
+        is_time(extent.end);
         Ok(LayerName {
-            collection: collection.copy(self.alloc)?,
+            collection: extent.collection.copy(self.alloc)?,
             cluster: self.name.copy(self.alloc)?,
-            full: end,
-            start: Hlc::zero(),
-            end,
+            full: extent.full,
+            start: extent.start,
+            end: extent.end,
             job: self.jobs.len() as u32 + 1,
         })
     }
 
-    /// A job for a full layer.
-    fn full_job(&self, collection: &Name, scope: Scope, end: Hlc) -> Result<BackupJob, Halt>
-        requires time { IsTime end }
-        requires scope { IsProperScope scope }
+    /// A job for a layer that goes on after the last end.
+    fn backup_job(&self, extent: Extent, last: Hlc) -> Result<BackupJob, Halt>
+        requires next { IsNext extent last }
         requires room { length self.now.jobs < 4294967295 }
-        ensures job { IfOk result (λ job. (tables : List Table) → Keeps self.now tables → IsFullJob (machine_of self.now tables) collection.now scope end job) }
-        ensures refused { IfErr result (λ e. (tables : List Table) → Keeps self.now tables → RefusedBy e (layer_refusal (machine_of self.now tables) collection.now scope end)) }
+        ensures job { IfOk result (λ job. (tables : List Table) → Keeps self.now tables → IsBackupJob (machine_of self.now tables) extent last job) }
+        ensures refused { IfErr result (λ e. (tables : List Table) → Keeps self.now tables → RefusedBy e (layer_refusal (machine_of self.now tables) extent last)) }
     {
-        let plan = self.full_plan(collection, &scope, end)?;
-        let name = self.full_name(collection, end)?;
-        let job = BackupJob::start(self.alloc, name, false, scope, plan, &self.catalog)?;
+        let plan = self.layer_plan(&extent, last)?;
+        let name = self.layer_name(&extent)?;
+        let Extent { history, scope, .. } = extent;
+        let job = BackupJob::start(self.alloc, name, history, scope, plan, &self.catalog)?;
+        are_counted(job.manifest());
         Ok(job)
     }
 
@@ -250,34 +280,66 @@ impl Cluster {
         }
     }
 
-    /// Makes a full layer. A job that meets another layer's manifest under its name keeps its
-    /// number, and the drawn time stands.
+    /// Makes a layer that goes on after the last end. A job that meets another layer's manifest
+    /// under its name keeps its number, and the drawn time stands.
     fn back_up<D: Disk>(
         &mut self,
         disk: &mut D,
-        collection: &Name,
-        scope: Scope,
-        end: Hlc,
+        extent: Extent,
+        last: Hlc,
         clock: Hlc,
     ) -> Result<Answer, Halt>
-        requires time { IsTime end }
-        requires scope { IsProperScope scope }
-        requires within { (time_le end clock ≡ true) × (time_le self.old.clock clock ≡ true) }
+        requires next { IsNext extent last }
+        requires scopes { time_lt last extent.end ≡ true → IsOfScopeOf self.old.book extent }
+        requires within { (time_le extent.end clock ≡ true) × (time_le self.old.clock clock ≡ true) }
         requires room { length self.old.jobs < self.old.steps }
         requires stands { (m : Machine) × StandsFor self.old m }
-        ensures step { (m to : Machine) → MayStep self.old m (full_backup m [] collection.now scope end clock) to (D.view disk.old)
-            → Runs self.new (full_backup m [] collection.now scope end clock) to result (D.view disk.old) (D.view disk.new) }
+        ensures step { (m to : Machine) → MayStep self.old m (backup m [] extent last clock) to (D.view disk.old)
+            → Runs self.new (backup m [] extent last clock) to result (D.view disk.old) (D.view disk.new) }
         ensures stays { StandsStill result self.new }
         ensures changes { ChangesOnly (IsOwnName self.old.name) (IsOwnName self.old.name) (D.view disk.old) (D.view disk.new) }
         ensures steps { self.new.steps ≡ self.old.steps }
         ensures cause { HaltHasCause (D.view disk.old).faults (D.view disk.new).faults result }
     {
-        let mut job = self.full_job(collection, scope, end)?;
+        let mut job = self.backup_job(extent, last)?;
         self.clock = clock;
         match job.run_to_end(self.rows.store(), disk) {
             Ok(()) => Ok(self.keep_backup(job)?),
             Err(fault) => Err(self.keep_failed(job, fault)),
         }
+    }
+
+    /// Makes a full layer.
+    fn back_up_full<D: Disk>(
+        &mut self,
+        disk: &mut D,
+        collection: &Name,
+        scope: Scope,
+        history: bool,
+        times: (Hlc, Hlc),
+    ) -> Result<Answer, Halt>
+        requires scope { IsProperScope scope }
+        requires within { (time_le times.0 times.1 ≡ true) × (time_le self.old.clock times.1 ≡ true) }
+        requires room { length self.old.jobs < self.old.steps }
+        requires stands { (m : Machine) × StandsFor self.old m }
+        ensures step { (m to : Machine) → MayStep self.old m (full_backup m [] collection.now scope history times.0 times.1) to (D.view disk.old)
+            → Runs self.new (full_backup m [] collection.now scope history times.0 times.1) to result (D.view disk.old) (D.view disk.new) }
+        ensures stays { StandsStill result self.new }
+        ensures changes { ChangesOnly (IsOwnName self.old.name) (IsOwnName self.old.name) (D.view disk.old) (D.view disk.new) }
+        ensures steps { self.new.steps ≡ self.old.steps }
+        ensures cause { HaltHasCause (D.view disk.old).faults (D.view disk.new).faults result }
+    {
+        let (end, clock) = times;
+        let last = self.book.last_full(collection);
+        let extent = Extent {
+            collection: collection.copy(self.alloc)?,
+            full: end,
+            start: Hlc::zero(),
+            end,
+            history,
+            scope,
+        };
+        self.back_up(disk, extent, last, clock)
     }
 
     pub(crate) fn backup_database<D: Disk>(
@@ -286,11 +348,12 @@ impl Cluster {
         database: &Name,
         collection: &Name,
         at: Option<Hlc>,
+        history: bool,
     ) -> Result<Answer, Halt>
         requires room { length self.old.jobs < self.old.steps }
         requires stands { (m : Machine) × StandsFor self.old m }
-        ensures step { (m to : Machine) → MayStep self.old m (backup_database m database.now collection.now at) to (D.view disk.old)
-            → Runs self.new (backup_database m database.now collection.now at) to result (D.view disk.old) (D.view disk.new) }
+        ensures step { (m to : Machine) → MayStep self.old m (backup_database m database.now collection.now at history) to (D.view disk.old)
+            → Runs self.new (backup_database m database.now collection.now at history) to result (D.view disk.old) (D.view disk.new) }
         ensures stays { StandsStill result self.new }
         ensures changes { ChangesOnly (IsOwnName self.old.name) (IsOwnName self.old.name) (D.view disk.old) (D.view disk.new) }
         ensures steps { self.new.steps ≡ self.old.steps }
@@ -299,7 +362,7 @@ impl Cluster {
         let (end, clock) = end_of(self.clock, at)?;
         check_database(self.alloc, &self.catalog, database)?;
         let scope = Scope::Database(database.copy(self.alloc)?);
-        self.back_up(disk, collection, scope, end, clock)
+        self.back_up_full(disk, collection, scope, history, (end, clock))
     }
 
     pub(crate) fn backup_tables<D: Disk>(
@@ -308,11 +371,12 @@ impl Cluster {
         tables: &[(Name, Name)],
         collection: &Name,
         at: Option<Hlc>,
+        history: bool,
     ) -> Result<Answer, Halt>
         requires room { length self.old.jobs < self.old.steps }
         requires stands { (m : Machine) × StandsFor self.old m }
-        ensures step { (m to : Machine) → MayStep self.old m (backup_tables m tables.now collection.now at) to (D.view disk.old)
-            → Runs self.new (backup_tables m tables.now collection.now at) to result (D.view disk.old) (D.view disk.new) }
+        ensures step { (m to : Machine) → MayStep self.old m (backup_tables m tables.now collection.now at history) to (D.view disk.old)
+            → Runs self.new (backup_tables m tables.now collection.now at history) to result (D.view disk.old) (D.view disk.new) }
         ensures stays { StandsStill result self.new }
         ensures changes { ChangesOnly (IsOwnName self.old.name) (IsOwnName self.old.name) (D.view disk.old) (D.view disk.new) }
         ensures steps { self.new.steps ≡ self.old.steps }
@@ -326,7 +390,67 @@ impl Cluster {
             return Err(Halt::Memory);
         }
         let scope = Scope::Tables(Items::from_vec(ids));
-        self.back_up(disk, collection, scope, end, clock)
+        self.back_up_full(disk, collection, scope, history, (end, clock))
+    }
+
+    /// Makes a layer after those of a subdirectory.
+    fn back_up_after<D: Disk>(
+        &mut self,
+        disk: &mut D,
+        collection: &Name,
+        mut layers: Vec<(LayerName, Manifest)>,
+        history: bool,
+        times: (Hlc, Hlc),
+    ) -> Result<Answer, Halt>
+        requires layers { AreLayersFrom self.old.book Latest collection.now layers.items }
+        requires within { (time_le times.0 times.1 ≡ true) × (time_le self.old.clock times.1 ≡ true) }
+        requires room { length self.old.jobs < self.old.steps }
+        requires stands { (m : Machine) × StandsFor self.old m }
+        ensures step { (m to : Machine) → MayStep self.old m (increment_after m collection.now (map record_of layers.items) history times.0 times.1) to (D.view disk.old)
+            → Runs self.new (increment_after m collection.now (map record_of layers.items) history times.0 times.1) to result (D.view disk.old) (D.view disk.new) }
+        ensures stays { StandsStill result self.new }
+        ensures changes { ChangesOnly (IsOwnName self.old.name) (IsOwnName self.old.name) (D.view disk.old) (D.view disk.new) }
+        ensures steps { self.new.steps ≡ self.old.steps }
+        ensures cause { HaltHasCause (D.view disk.old).faults (D.view disk.new).faults result }
+    {
+        let (end, clock) = times;
+        let last = last_end(self.alloc, &layers)?;
+        match layers.pop() {
+            Some((layer, m)) => {
+                let Manifest { scope, .. } = m;
+                let extent = Extent {
+                    collection: collection.copy(self.alloc)?,
+                    full: layer.full,
+                    start: last,
+                    end,
+                    history,
+                    scope,
+                };
+                self.back_up(disk, extent, last, clock)
+            }
+            None => Err(Halt::Refused(Refusal::NoSuchBackup)),
+        }
+    }
+
+    pub(crate) fn backup_latest<D: Disk>(
+        &mut self,
+        disk: &mut D,
+        collection: &Name,
+        at: Option<Hlc>,
+        history: bool,
+    ) -> Result<Answer, Halt>
+        requires room { length self.old.jobs < self.old.steps }
+        requires stands { (m : Machine) × StandsFor self.old m }
+        ensures step { (m to : Machine) → MayStep self.old m (backup_latest m collection.now at history) to (D.view disk.old)
+            → Runs self.new (backup_latest m collection.now at history) to result (D.view disk.old) (D.view disk.new) }
+        ensures stays { StandsStill result self.new }
+        ensures changes { ChangesOnly (IsOwnName self.old.name) (IsOwnName self.old.name) (D.view disk.old) (D.view disk.new) }
+        ensures steps { self.new.steps ≡ self.old.steps }
+        ensures cause { HaltHasCause (D.view disk.old).faults (D.view disk.new).faults result }
+    {
+        let (end, clock) = end_of(self.clock, at)?;
+        let layers = self.layers_from(&Src::Latest, collection)?;
+        self.back_up_after(disk, collection, layers, history, (end, clock))
     }
 
     #[tactic(auto, unfolding(machine_model::specs::Backups::show_backups))]

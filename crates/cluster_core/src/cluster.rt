@@ -163,6 +163,7 @@ impl Cluster {
             Command::ShowBackups { collection } => Some(self.show_backups(collection)),
             Command::BackupDatabase { .. }
             | Command::BackupTables { .. }
+            | Command::BackupLatest { .. }
             | Command::RestoreDatabase { .. }
             | Command::Forget { .. } => None,
         }
@@ -186,12 +187,19 @@ impl Cluster {
                 database,
                 collection,
                 at,
-            } => self.backup_database(disk, database, collection, *at),
+                history,
+            } => self.backup_database(disk, database, collection, *at, *history),
             Command::BackupTables {
                 tables,
                 collection,
                 at,
-            } => self.backup_tables(disk, tables.as_slice(), collection, *at),
+                history,
+            } => self.backup_tables(disk, tables.as_slice(), collection, *at, *history),
+            Command::BackupLatest {
+                collection,
+                at,
+                history,
+            } => self.backup_latest(disk, collection, *at, *history),
             Command::RestoreDatabase {
                 database,
                 source,

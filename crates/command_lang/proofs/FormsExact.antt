@@ -4,10 +4,10 @@ use Rattle.script_grammar.specs.Grammar.{Form, one, ◌making◌}
 use Rattle.script_grammar.specs.Columns.{IsExact}
 use Rattle.script_grammar.specs.Parts.{name, new_name_of, count_of, kind_of, time_of, table, row, columns, starts_column, collection_of, source_in}
 use Rattle.script_grammar.proofs.Rights.{IsRight, explained, then_, then_before_, word_, mark_, end_, making_, bars_mark_mark, bars_mark_word, bars_mark_end, bars_word_end}
-use Rattle.script_grammar.proofs.PartsExact.{name_part, new_name_part, count_part, kind_part, time_part, table_part, row_part, columns_part, key_part, key_then_bars_column, references_, rows_, asof_, collection_part, source_in_part, tables_, restore_options_, restore_options_bar}
+use Rattle.script_grammar.proofs.PartsExact.{name_part, new_name_part, count_part, kind_part, time_part, table_part, row_part, columns_part, key_part, key_then_bars_column, references_, rows_, asof_, collection_part, source_in_part, tables_, backup_clauses_, restore_options_, restore_options_bar}
 use Rattle.script_grammar.proofs.Families.{Lead, Leads, Family, lead_word, lead_table, lead_end, family, making_family, or_}
-use Rattle.command_lang.specs.declared.command.Command.TheVariants.{Cluster, Tick, CreateDatabase, CreateTable, AddColumn, DropColumn, RenameColumn, RenameTable, DropTable, Upsert, Delete, DeleteRange, Select, Gc, BackupDatabase, BackupTables, RestoreDatabase, Forget, ShowBackups}
-use Rattle.command_lang.specs.Forms.{cluster, tick, create_database, create_table, drop_table, add_column, drop_column, rename_column, rename_table, upsert, delete, delete_range, select, gc, backup_database, backup_tables, restore_database, forget, show_backups, schema_command, alter_command, row_command, layer_command, command}
+use Rattle.command_lang.specs.declared.command.Command.TheVariants.{Cluster, Tick, CreateDatabase, CreateTable, AddColumn, DropColumn, RenameColumn, RenameTable, DropTable, Upsert, Delete, DeleteRange, Select, Gc, BackupDatabase, BackupTables, BackupLatest, RestoreDatabase, Forget, ShowBackups}
+use Rattle.command_lang.specs.Forms.{cluster, tick, create_database, create_table, drop_table, add_column, drop_column, rename_column, rename_table, upsert, delete, delete_range, select, gc, backup_database, backup_tables, backup_latest, restore_database, forget, show_backups, schema_command, alter_command, row_command, layer_command, command}
 
 -- ---- each form is read right
 
@@ -82,13 +82,20 @@ backup_database_right : IsRight backup_database
 unfolding backup_database
 backup_database_right =
     word_ _ _ refl (word_ _ _ refl (then_ name _ name_part (λ d. word_ _ _ refl (then_ (one collection_of) _ collection_part
-    (λ c. asof_ _ (λ at. end_ _) (bars_word_end (codes "as") _))))))
+    (λ c. backup_clauses_ _ (λ x. end_ _) (λ x. bars_mark_end 44 _ refl) (λ x. bars_word_end (codes "as") _) (λ x. bars_word_end (codes "with") _))))))
 
 backup_tables_right : IsRight backup_tables
 unfolding backup_tables
 backup_tables_right =
     word_ _ _ refl (word_ _ _ refl (tables_ _ (λ ts. word_ _ _ refl (then_ (one collection_of) _ collection_part
-    (λ c. asof_ _ (λ at. end_ _) (bars_word_end (codes "as") _)))) (λ ts. bars_mark_word 44 (codes "into") _)))
+    (λ c. backup_clauses_ _ (λ x. end_ _) (λ x. bars_mark_end 44 _ refl) (λ x. bars_word_end (codes "as") _) (λ x. bars_word_end (codes "with") _))))
+    (λ ts. bars_mark_word 44 (codes "into") _)))
+
+backup_latest_right : IsRight backup_latest
+unfolding backup_latest
+backup_latest_right =
+    word_ _ _ refl (word_ _ _ refl (word_ _ _ refl (word_ _ _ refl (then_ (one collection_of) _ collection_part
+    (λ c. backup_clauses_ _ (λ x. end_ _) (λ x. bars_mark_end 44 _ refl) (λ x. bars_word_end (codes "as") _) (λ x. bars_word_end (codes "with") _))))))
 
 restore_database_right : IsRight restore_database
 unfolding restore_database
@@ -173,6 +180,10 @@ backup_tables_leads : Leads (Some (codes "backup") ∷ Some (codes "table") ∷ 
 unfolding backup_tables
 backup_tables_leads = lead_word _ _ _ (lead_word _ _ _ (lead_end _))
 
+backup_latest_leads : Leads (Some (codes "backup") ∷ Some (codes "into") ∷ []) backup_latest
+unfolding backup_latest
+backup_latest_leads = lead_word _ _ _ (lead_word _ _ _ (lead_end _))
+
 restore_database_leads : Leads (Some (codes "restore") ∷ []) restore_database
 unfolding restore_database
 restore_database_leads = lead_word _ _ _ (lead_end _)
@@ -227,14 +238,15 @@ row_family =
 
 layer_leads : List Lead
 layer_leads =
-    (Some (codes "backup") ∷ Some (codes "database") ∷ []) ∷ (Some (codes "backup") ∷ Some (codes "table") ∷ []) ∷ (Some (codes "restore") ∷ [])
-    ∷ (Some (codes "forget") ∷ []) ∷ (Some (codes "show") ∷ []) ∷ []
+    (Some (codes "backup") ∷ Some (codes "database") ∷ []) ∷ (Some (codes "backup") ∷ Some (codes "table") ∷ []) ∷ (Some (codes "backup") ∷ Some (codes "into") ∷ [])
+    ∷ (Some (codes "restore") ∷ []) ∷ (Some (codes "forget") ∷ []) ∷ (Some (codes "show") ∷ []) ∷ []
 
 layer_family : Family layer_leads layer_command
 unfolding layer_command layer_leads
 layer_family =
-    or_ _ _ _ _ (or_ _ _ _ _ (or_ _ _ _ _ (or_ _ _ _ _ (made _ backup_database (λ x. BackupDatabase x.0 x.1 x.2 false) backup_database_right backup_database_leads)
-    (made _ backup_tables (λ x. BackupTables x.0 x.1 x.2 false) backup_tables_right backup_tables_leads) refl)
+    or_ _ _ _ _ (or_ _ _ _ _ (or_ _ _ _ _ (or_ _ _ _ _ (or_ _ _ _ _ (made _ backup_database (λ x. BackupDatabase x.0 x.1 x.2 x.3.history) backup_database_right backup_database_leads)
+    (made _ backup_tables (λ x. BackupTables x.0 x.1 x.2 x.3.history) backup_tables_right backup_tables_leads) refl)
+    (made _ backup_latest (λ x. BackupLatest x.0 x.1 x.2.history) backup_latest_right backup_latest_leads) refl)
     (made _ restore_database (λ x. RestoreDatabase x.0 x.1 x.2 x.3 x.4) restore_database_right restore_database_leads) refl)
     (made _ forget (λ x. Forget x.0 x.1 x.2 x.3) forget_right forget_leads) refl)
     (made _ show_backups ShowBackups show_backups_right show_backups_leads) refl

@@ -6,16 +6,17 @@ use Rattle.row_codec.specs.declared.rows.Datum.{Datum}
 use Rattle.row_codec.specs.declared.rows.Kind.{Kind}
 use Rattle.script_tokens.specs.Tokens.{tokens, places}
 use Rattle.script_grammar.specs.Grammar.{Progress, Read, Fault, one, ◌making◌}
-use Rattle.script_grammar.specs.Parts.{name, new_name_of, count_of, kind_of, time_of, table, row, rows, asof, columns, key, references, collection_of, source_in, tables, restore_options}
+use Rattle.script_grammar.specs.Parts.{name, new_name_of, count_of, kind_of, time_of, table, row, rows, asof, columns, key, references, collection_of, source_in, tables, backup_clauses, restore_options}
 use Rattle.script_grammar.specs.declared.backups.Src.{Src}
+use Rattle.script_grammar.specs.declared.options.BackupOptions.{BackupOptions}
 use Rattle.command_lang.specs.declared.command.Command.{Command}
-use Rattle.command_lang.specs.declared.command.Command.TheVariants.{Cluster, Tick, CreateDatabase, CreateTable, AddColumn, DropColumn, RenameColumn, RenameTable, DropTable, Upsert, Delete, DeleteRange, Select, Gc, BackupDatabase, BackupTables, RestoreDatabase, Forget, ShowBackups}
+use Rattle.command_lang.specs.declared.command.Command.TheVariants.{Cluster, Tick, CreateDatabase, CreateTable, AddColumn, DropColumn, RenameColumn, RenameTable, DropTable, Upsert, Delete, DeleteRange, Select, Gc, BackupDatabase, BackupTables, BackupLatest, RestoreDatabase, Forget, ShowBackups}
 use Rattle.command_lang.specs.declared.limits.TheConstants.{LINE_BYTES_MAX}
-use Rattle.command_lang.specs.Forms.{cluster, tick, create_database, create_table, drop_table, add_column, drop_column, rename_column, rename_table, upsert, delete, delete_range, select, gc, backup_database, backup_tables, restore_database, forget, show_backups, schema_command, alter_command, row_command, layer_command, command}
+use Rattle.command_lang.specs.Forms.{cluster, tick, create_database, create_table, drop_table, add_column, drop_column, rename_column, rename_table, upsert, delete, delete_range, select, gc, backup_database, backup_tables, backup_latest, restore_database, forget, show_backups, schema_command, alter_command, row_command, layer_command, command}
 use Rattle.command_lang.specs.Lines.{Reads, Malformed, Skipped, reading, reading_of, after_blanks, is_skipped_text}
 use Rattle.command_lang.specs.Typed.{AreColumns, AreValues, IfGiven, IsKeyOfColumns, IsName, IsSource, IsTableName, IsTyped, ReadCommandsAreTyped}
 use Rattle.command_lang.proofs.TypedTokens.{tokens-are}
-use Rattle.command_lang.proofs.TypedForms.{Any, AreTables, Gets, IsWall, Meets, then-gets, ending-gets, word-gets, mark-gets, making-gets, or-gets, name-gets, new_name-gets, count-gets, kind-gets, time-gets, table-gets, row-gets, rows-gets, asof-gets, columns-gets, key-gets, references-gets, collection-gets, source_in-gets, tables-gets, options-gets}
+use Rattle.command_lang.proofs.TypedForms.{Any, AreTables, Gets, IsDated, IsWall, Meets, then-gets, ending-gets, word-gets, mark-gets, making-gets, or-gets, name-gets, new_name-gets, count-gets, kind-gets, time-gets, table-gets, row-gets, rows-gets, asof-gets, columns-gets, key-gets, references-gets, collection-gets, source_in-gets, tables-gets, backup_clauses-gets, options-gets}
 
 -- ---- each form
 
@@ -128,24 +129,34 @@ gc-typed = making-gets IsCollection IsTyped _ (λ x. Gc x.0 x.1)
     (word-gets IsCollection _ _ (then-gets IsTableName IsCollection table _ table-gets (λ t it. word-gets IsCollection _ _ (then-gets IsTime IsCollection (one time_of) _ time-gets (λ g is. ending-gets IsCollection (t, g) (it, is))))))
     (λ x is. is)
 
-abbrev IsBackup : List ℕ × List ℕ × Option Time → Type 0
+abbrev IsBackup : List ℕ × List ℕ × Option Time × BackupOptions → Type 0
 IsBackup x = IsName x.0 × IsName x.1 × IfGiven IsTime x.2
 
-backup_database-typed : Gets IsTyped (backup_database making (λ x. BackupDatabase x.0 x.1 x.2 false))
+backup_database-typed : Gets IsTyped (backup_database making (λ x. BackupDatabase x.0 x.1 x.2 x.3.history))
 unfolding backup_database
-backup_database-typed = making-gets IsBackup IsTyped _ (λ x. BackupDatabase x.0 x.1 x.2 false)
+backup_database-typed = making-gets IsBackup IsTyped _ (λ x. BackupDatabase x.0 x.1 x.2 x.3.history)
     (word-gets IsBackup _ _ (word-gets IsBackup _ _ (then-gets IsName IsBackup name _ name-gets (λ d id. word-gets IsBackup _ _ (then-gets IsName IsBackup (one collection_of) _ collection-gets (λ c ic.
-    then-gets (IfGiven IsTime) IsBackup asof _ asof-gets (λ at is. ending-gets IsBackup (d, c, at) (id, ic, is))))))))
+    then-gets IsDated IsBackup backup_clauses _ backup_clauses-gets (λ y is. ending-gets IsBackup (d, c, y.0, y.1) (id, ic, is))))))))
     (λ x is. is)
 
-abbrev IsTablesBackup : List (List ℕ × List ℕ) × List ℕ × Option Time → Type 0
+abbrev IsTablesBackup : List (List ℕ × List ℕ) × List ℕ × Option Time × BackupOptions → Type 0
 IsTablesBackup x = AreTables x.0 × IsName x.1 × IfGiven IsTime x.2
 
-backup_tables-typed : Gets IsTyped (backup_tables making (λ x. BackupTables x.0 x.1 x.2 false))
+backup_tables-typed : Gets IsTyped (backup_tables making (λ x. BackupTables x.0 x.1 x.2 x.3.history))
 unfolding backup_tables
-backup_tables-typed = making-gets IsTablesBackup IsTyped _ (λ x. BackupTables x.0 x.1 x.2 false)
+backup_tables-typed = making-gets IsTablesBackup IsTyped _ (λ x. BackupTables x.0 x.1 x.2 x.3.history)
     (word-gets IsTablesBackup _ _ (word-gets IsTablesBackup _ _ (then-gets AreTables IsTablesBackup tables _ tables-gets (λ ts it. word-gets IsTablesBackup _ _ (then-gets IsName IsTablesBackup (one collection_of) _ collection-gets (λ c ic.
-    then-gets (IfGiven IsTime) IsTablesBackup asof _ asof-gets (λ at is. ending-gets IsTablesBackup (ts, c, at) (it, ic, is))))))))
+    then-gets IsDated IsTablesBackup backup_clauses _ backup_clauses-gets (λ y is. ending-gets IsTablesBackup (ts, c, y.0, y.1) (it, ic, is))))))))
+    (λ x is. is)
+
+abbrev IsLayerBackup : List ℕ × Option Time × BackupOptions → Type 0
+IsLayerBackup x = IsName x.0 × IfGiven IsTime x.1
+
+backup_latest-typed : Gets IsTyped (backup_latest making (λ x. BackupLatest x.0 x.1 x.2.history))
+unfolding backup_latest
+backup_latest-typed = making-gets IsLayerBackup IsTyped _ (λ x. BackupLatest x.0 x.1 x.2.history)
+    (word-gets IsLayerBackup _ _ (word-gets IsLayerBackup _ _ (word-gets IsLayerBackup _ _ (word-gets IsLayerBackup _ _ (then-gets IsName IsLayerBackup (one collection_of) _ collection-gets (λ c ic.
+    then-gets IsDated IsLayerBackup backup_clauses _ backup_clauses-gets (λ y is. ending-gets IsLayerBackup (c, y.0, y.1) (ic, is))))))))
     (λ x is. is)
 
 abbrev IsRestore : List ℕ × Src × List ℕ × Option Time × Option (List ℕ) → Type 0
@@ -188,7 +199,7 @@ row-typed = or-gets IsTyped _ _ (or-gets IsTyped _ _ (or-gets IsTyped _ _ (or-ge
 
 layer-typed : Gets IsTyped layer_command
 unfolding layer_command
-layer-typed = or-gets IsTyped _ _ (or-gets IsTyped _ _ (or-gets IsTyped _ _ (or-gets IsTyped _ _ backup_database-typed backup_tables-typed) restore_database-typed) forget-typed) show_backups-typed
+layer-typed = or-gets IsTyped _ _ (or-gets IsTyped _ _ (or-gets IsTyped _ _ (or-gets IsTyped _ _ (or-gets IsTyped _ _ backup_database-typed backup_tables-typed) backup_latest-typed) restore_database-typed) forget-typed) show_backups-typed
 
 command-typed : (first : Bool) → Gets IsTyped (command first)
 unfolding command

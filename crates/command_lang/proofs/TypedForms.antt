@@ -13,9 +13,10 @@ use Rattle.table_descriptors.specs.Names.{is_name, name_of}
 use Rattle.script_tokens.specs.declared.token.Token.{Token}
 use Rattle.script_tokens.specs.declared.token.Token.TheVariants.{Word, Number, Text, Bytes, Mark, Bad}
 use Rattle.script_grammar.specs.Grammar.{Form, Progress, Read, Fault, give, one, word, mark, fits, is_word, is_mark, many, list_of, either, maybe_one, ending, ◌making◌, ◌or◌, ◌>>=◌, ◌>>◌, and_read, begins_with, farthest, read_ending, read_within, token_or_fault}
-use Rattle.script_grammar.specs.Parts.{name, name_of_token, new_name_of, is_reserved, count_of, at_least_0, kind_of, datum_of, datum_of_word, time_of, order_of, table, row, rows, time_clause, asof, column, column_and_comma, starts_column, columns, key_column, key, reference, references, collection_of, source_of, source_word, source_text, source_in, with_table, is_table, tables, restore_option, new_name_after, options_clause, restore_options}
+use Rattle.script_grammar.specs.Parts.{name, name_of_token, new_name_of, is_reserved, count_of, at_least_0, kind_of, datum_of, datum_of_word, time_of, order_of, table, row, rows, time_clause, asof, column, column_and_comma, starts_column, columns, key_column, key, reference, references, collection_of, source_of, source_word, source_text, source_in, with_table, is_table, tables, backup_option_of, options_in, backup_options_clause, backup_options, backup_clauses, restore_option, new_name_after, options_clause, restore_options}
 use Rattle.script_grammar.specs.declared.backups.Src.{Src}
 use Rattle.script_grammar.specs.declared.backups.Src.TheVariants.{Latest, Named}
+use Rattle.script_grammar.specs.declared.options.BackupOptions.{BackupOptions}
 use Rattle.script_grammar.proofs.SourceTexts.{sources_exact}
 use Rattle.command_lang.specs.Typed.{AreColumns, AreValues, IfGiven, IsKeyOfColumns, IsName, IsSource, IsTableName}
 use Rattle.command_lang.proofs.TypedTokens.{AreTokens, IsToken}
@@ -314,6 +315,22 @@ folded before (t ∷ ts) all are = folded (with_table before t) ts (with-gets be
 pub tables-gets : Gets AreTables tables
 unfolding tables
 tables-gets = then-gets (Some_ IsTableName) AreTables (list_of table) _ (list-gets IsTableName table table-gets) (λ ts are. give-gets AreTables (fold with_table [] ts) (folded [] ts tt are.0))
+
+-- ---- options
+
+backup_options-gets : Gets Any backup_options
+unfolding backup_options backup_options_clause
+backup_options-gets = either-gets Any (is_word (codes "with")) _ (give (options_in []))
+    (word-gets Any _ _ (then-gets (Some_ Any) Any (list_of (one backup_option_of)) _ (list-gets Any (one backup_option_of) (one-gets Any backup_option_of (λ t a typed e. tt))) (λ os are. give-gets Any (options_in os) tt)))
+    (give-gets Any (options_in []) tt)
+
+-- of the clauses of a backup the time is a time
+abbrev pub IsDated : Option Time × BackupOptions → Type 0
+IsDated x = IfGiven IsTime x.0
+
+pub backup_clauses-gets : Gets IsDated backup_clauses
+unfolding backup_clauses
+backup_clauses-gets = then-gets (IfGiven IsTime) IsDated asof _ asof-gets (λ at is. then-gets Any IsDated backup_options _ backup_options-gets (λ os any. give-gets IsDated (at, os) is))
 
 -- an option keeps a name a name
 module _ {O : Type 0} (name_after : Option (List ℕ) → O → Option (List ℕ)) where

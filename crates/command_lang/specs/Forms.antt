@@ -4,10 +4,11 @@ use Rattle.mvcc_keys.specs.Times.{Time}
 use Rattle.row_codec.specs.declared.rows.Datum.{Datum}
 use Rattle.row_codec.specs.declared.rows.Kind.{Kind}
 use Rattle.script_grammar.specs.Grammar.{Form, ◌>>=◌, ◌>>◌, one, word, mark, ending, ◌making◌, ◌or◌}
-use Rattle.script_grammar.specs.Parts.{name, new_name_of, count_of, kind_of, time_of, table, row, rows, asof, columns, key, references, collection_of, source_in, tables, restore_options}
+use Rattle.script_grammar.specs.Parts.{name, new_name_of, count_of, kind_of, time_of, table, row, rows, asof, columns, key, references, collection_of, source_in, tables, backup_clauses, restore_options}
 use Rattle.script_grammar.specs.declared.backups.Src.{Src}
+use Rattle.script_grammar.specs.declared.options.BackupOptions.{BackupOptions}
 use Rattle.command_lang.specs.declared.command.Command.{Command}
-use Rattle.command_lang.specs.declared.command.Command.TheVariants.{Cluster, Tick, CreateDatabase, CreateTable, AddColumn, DropColumn, RenameColumn, RenameTable, DropTable, Upsert, Delete, DeleteRange, Select, Gc, BackupDatabase, BackupTables, RestoreDatabase, Forget, ShowBackups}
+use Rattle.command_lang.specs.declared.command.Command.TheVariants.{Cluster, Tick, CreateDatabase, CreateTable, AddColumn, DropColumn, RenameColumn, RenameTable, DropTable, Upsert, Delete, DeleteRange, Select, Gc, BackupDatabase, BackupTables, BackupLatest, RestoreDatabase, Forget, ShowBackups}
 
 -- ---- the cluster
 
@@ -161,27 +162,38 @@ gc = do
 
 -- ---- backups
 
--- BACKUP DATABASE name INTO coll [AS OF SYSTEM TIME time]
-unfoldable pub backup_database : Form (List ℕ × List ℕ × Option Time)
+-- BACKUP DATABASE name INTO coll [AS OF SYSTEM TIME time] [WITH options]
+unfoldable pub backup_database : Form (List ℕ × List ℕ × Option Time × BackupOptions)
 backup_database = do
   word (codes "backup")
   word (codes "database")
   d ← name
   word (codes "into")
   c ← one collection_of
-  at ← asof
-  ending (d, c, at)
+  x ← backup_clauses
+  ending (d, c, x.0, x.1)
 
--- BACKUP TABLE tbl {, tbl} INTO coll [AS OF SYSTEM TIME time]
-unfoldable pub backup_tables : Form (List (List ℕ × List ℕ) × List ℕ × Option Time)
+-- BACKUP TABLE tbl {, tbl} INTO coll [AS OF SYSTEM TIME time] [WITH options]
+unfoldable pub backup_tables : Form (List (List ℕ × List ℕ) × List ℕ × Option Time × BackupOptions)
 backup_tables = do
   word (codes "backup")
   word (codes "table")
   ts ← tables
   word (codes "into")
   c ← one collection_of
-  at ← asof
-  ending (ts, c, at)
+  x ← backup_clauses
+  ending (ts, c, x.0, x.1)
+
+-- BACKUP INTO LATEST IN coll [AS OF SYSTEM TIME time] [WITH options]
+unfoldable pub backup_latest : Form (List ℕ × Option Time × BackupOptions)
+backup_latest = do
+  word (codes "backup")
+  word (codes "into")
+  word (codes "latest")
+  word (codes "in")
+  c ← one collection_of
+  x ← backup_clauses
+  ending (c, x.0, x.1)
 
 abbrev pub restore_with : List ℕ → Src → List ℕ → Option Time → Form (List ℕ × Src × List ℕ × Option Time × Option (List ℕ))
 restore_with d s c at = do
@@ -255,8 +267,9 @@ row_command =
 
 unfoldable pub layer_command : Form Command
 layer_command =
-    backup_database making (λ x. BackupDatabase x.0 x.1 x.2 false)
-    or backup_tables making (λ x. BackupTables x.0 x.1 x.2 false)
+    backup_database making (λ x. BackupDatabase x.0 x.1 x.2 x.3.history)
+    or backup_tables making (λ x. BackupTables x.0 x.1 x.2 x.3.history)
+    or backup_latest making (λ x. BackupLatest x.0 x.1 x.2.history)
     or restore_database making (λ x. RestoreDatabase x.0 x.1 x.2 x.3 x.4)
     or forget making (λ x. Forget x.0 x.1 x.2 x.3)
     or show_backups making ShowBackups

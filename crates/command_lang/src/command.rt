@@ -80,6 +80,7 @@ pub enum Command {
         at: Option<Hlc>,
         history: bool,
     },
+    /// A further layer on the newest full backup of a collection.
     BackupLatest {
         collection: Name,
         at: Option<Hlc>,

@@ -1,20 +1,23 @@
 //! The forms of backups and restores, and the commands that they make.
-ghost use Rattle.std.specs.Prelude.{◌≡◌, false, []};
+ghost use Rattle.std.specs.Prelude.{◌≡◌, []};
 ghost use Rattle.script_grammar.specs.Grammar.{Gives, ◌making◌};
-ghost use Rattle.command_lang.specs.declared.command.Command.TheVariants.{BackupDatabase, BackupTables, RestoreDatabase, Forget, ShowBackups};
-ghost use Rattle.command_lang.specs.Forms.{backup_database, backup_tables, restore_with, restore_at, restore_database, forget_to, forget_layer, forget, show_backups, layer_command};
+ghost use Rattle.command_lang.specs.declared.command.Command.TheVariants.{BackupDatabase, BackupTables, BackupLatest, RestoreDatabase, Forget, ShowBackups};
+ghost use Rattle.command_lang.specs.Forms.{backup_database, backup_tables, backup_latest, restore_with, restore_at, restore_database, forget_to, forget_layer, forget, show_backups, layer_command};
 
 use crate::{Command, Tbl};
 use mvcc_keys::{Hlc, Items};
 use script_grammar::{
-    Broken, Src, Token, asof, collection, ending, farthest, name, restore_options, source_in,
-    tables, time, word,
+    BackupOptions, Broken, Src, Token, asof, backup_clauses, collection, ending, farthest, name,
+    restore_options, source_in, tables, time, word,
 };
 use std::alloc::Global;
 use table_descriptors::Name;
 
+/// A database, the collection of its backup, a time and options.
+type DatabaseIn = (Name, Name, Option<Hlc>, BackupOptions);
+
 #[tactic(auto, unfolding(crate::specs::Forms::backup_database))]
-fn backup_database(alloc: Global, tokens: &[Token]) -> Result<(Name, Name, Option<Hlc>), Broken>
+fn backup_database(alloc: Global, tokens: &[Token]) -> Result<DatabaseIn, Broken>
     ensures { Gives (λ x. x) (λ x. []) result (backup_database.read tokens.now) }
 {
     let rest = word(b"backup", tokens)?;
@@ -22,14 +25,14 @@ fn backup_database(alloc: Global, tokens: &[Token]) -> Result<(Name, Name, Optio
     let (database, rest) = name(alloc, rest)?;
     let rest = word(b"into", rest)?;
     let (collection, rest) = collection(alloc, rest)?;
-    match asof(rest) {
-        Ok((at, rest)) => ending((database, collection, at), rest),
+    match backup_clauses(alloc, rest) {
+        Ok(((at, options), rest)) => ending((database, collection, at, options), rest),
         Err(broken) => Err(broken),
     }
 }
 
-/// The tables of a backup, its collection and its time.
-type TablesIn = (Items<Tbl>, Name, Option<Hlc>);
+/// The tables of a backup, its collection, a time and options.
+type TablesIn = (Items<Tbl>, Name, Option<Hlc>, BackupOptions);
 
 #[tactic(auto, unfolding(crate::specs::Forms::backup_tables))]
 fn backup_tables(alloc: Global, tokens: &[Token]) -> Result<TablesIn, Broken>
@@ -40,8 +43,26 @@ fn backup_tables(alloc: Global, tokens: &[Token]) -> Result<TablesIn, Broken>
     let (tables, rest) = tables(alloc, rest)?;
     let rest = word(b"into", rest)?;
     let (collection, rest) = collection(alloc, rest)?;
-    match asof(rest) {
-        Ok((at, rest)) => ending((tables, collection, at), rest),
+    match backup_clauses(alloc, rest) {
+        Ok(((at, options), rest)) => ending((tables, collection, at, options), rest),
+        Err(broken) => Err(broken),
+    }
+}
+
+/// The collection of a further layer, a time and options.
+type LayerIn = (Name, Option<Hlc>, BackupOptions);
+
+#[tactic(auto, unfolding(crate::specs::Forms::backup_latest))]
+fn backup_latest(alloc: Global, tokens: &[Token]) -> Result<LayerIn, Broken>
+    ensures { Gives (λ x. x) (λ x. []) result (backup_latest.read tokens.now) }
+{
+    let rest = word(b"backup", tokens)?;
+    let rest = word(b"into", rest)?;
+    let rest = word(b"latest", rest)?;
+    let rest = word(b"in", rest)?;
+    let (collection, rest) = collection(alloc, rest)?;
+    match backup_clauses(alloc, rest) {
+        Ok(((at, options), rest)) => ending((collection, at, options), rest),
         Err(broken) => Err(broken),
     }
 }
@@ -142,26 +163,37 @@ fn show_backups(alloc: Global, tokens: &[Token]) -> Result<Name, Broken>
 }
 
 fn backup_database_command(alloc: Global, tokens: &[Token]) -> Result<Command, Broken>
-    ensures { Gives (λ x. x) (λ x. []) result ((backup_database making (λ x. BackupDatabase x.0 x.1 x.2 false)).read tokens.now) }
+    ensures { Gives (λ x. x) (λ x. []) result ((backup_database making (λ x. BackupDatabase x.0 x.1 x.2 x.3.history)).read tokens.now) }
 {
-    let (database, collection, at) = backup_database(alloc, tokens)?;
+    let (database, collection, at, options) = backup_database(alloc, tokens)?;
     Ok(Command::BackupDatabase {
         database,
         collection,
         at,
-        history: false,
+        history: options.history,
     })
 }
 
 fn backup_tables_command(alloc: Global, tokens: &[Token]) -> Result<Command, Broken>
-    ensures { Gives (λ x. x) (λ x. []) result ((backup_tables making (λ x. BackupTables x.0 x.1 x.2 false)).read tokens.now) }
+    ensures { Gives (λ x. x) (λ x. []) result ((backup_tables making (λ x. BackupTables x.0 x.1 x.2 x.3.history)).read tokens.now) }
 {
-    let (tables, collection, at) = backup_tables(alloc, tokens)?;
+    let (tables, collection, at, options) = backup_tables(alloc, tokens)?;
     Ok(Command::BackupTables {
         tables,
         collection,
         at,
-        history: false,
+        history: options.history,
+    })
+}
+
+fn backup_latest_command(alloc: Global, tokens: &[Token]) -> Result<Command, Broken>
+    ensures { Gives (λ x. x) (λ x. []) result ((backup_latest making (λ x. BackupLatest x.0 x.1 x.2.history)).read tokens.now) }
+{
+    let (collection, at, options) = backup_latest(alloc, tokens)?;
+    Ok(Command::BackupLatest {
+        collection,
+        at,
+        history: options.history,
     })
 }
 
@@ -209,6 +241,7 @@ pub(crate) fn layer_command(alloc: Global, tokens: &[Token]) -> Result<Command, 
         backup_database_command(alloc, tokens),
         backup_tables_command(alloc, tokens),
     );
+    let found = farthest(found, backup_latest_command(alloc, tokens));
     let found = farthest(found, restore_database_command(alloc, tokens));
     let found = farthest(found, forget_command(alloc, tokens));
     farthest(found, show_backups_command(alloc, tokens))

@@ -285,7 +285,7 @@ module _ (m : Machine) (o : IsInOrder m) where
   latest-order : (collection : List ℕ) (at : Option Time) (history : Bool) → IsInOrder (backup_latest m collection at history).machine
   unfolding backup_latest
   latest-order collection at history = ending-order at _ (λ end clock le over. source-order Latest collection _ (λ s. let rs = layers_in m collection s in
-      found-order m NoSuchBackup (slice_get rs 0) _ o (λ r e. layer-order [] (next_extent collection r rs history end) (last_end rs) clock (le-refl (last_end rs)) le over)))
+      found-order m NoSuchBackup (slice_get rs (length rs - 1)) _ o (λ r e. layer-order [] (next_extent collection r rs history end) (last_end rs) clock (le-refl (last_end rs)) le over)))
 
   forget-order : (source : Src) (collection : List ℕ) (start end : Time) → IsInOrder (forget m source collection start end).machine
   unfolding forget

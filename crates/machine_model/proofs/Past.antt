@@ -307,7 +307,7 @@ source-later m source collection change later = finding-later m NoSuchBackup (so
 latest-later : (m : Machine) (collection : List ℕ) (at : Option Time) (history : Bool) → IsLater m (backup_latest m collection at history).machine
 unfolding backup_latest
 latest-later m collection at history = ending-later m at _ (λ end clock le. source-later m Latest collection _ (λ s. let rs = layers_in m collection s in
-    finding-later m NoSuchBackup (slice_get rs 0) _ (λ r. layer-later m [] (next_extent collection r rs history end) (last_end rs) clock le)))
+    finding-later m NoSuchBackup (slice_get rs (length rs - 1)) _ (λ r. layer-later m [] (next_extent collection r rs history end) (last_end rs) clock le)))
 
 show-later : (m : Machine) (collection : List ℕ) → IsLater m (show_backups m collection).machine
 unfolding show_backups

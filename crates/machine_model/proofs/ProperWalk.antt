@@ -245,7 +245,7 @@ module _ (n : ℕ) (m : Machine) (small : n < 2 ^ 32 - 2) (p : HasProper n m) (o
   pub latest-proper : (collection : List ℕ) (at : Option Time) (history : Bool) → Keeps n m p (backup_latest m collection at history)
   unfolding backup_latest
   latest-proper collection at history = ending-proper at _ (λ end clock le time. source-proper Latest collection _ (λ s. let rs = layers_in m collection s in
-      found-keeps n m p NoSuchBackup (slice_get rs 0) _ (λ r e. layer-proper [] (next_extent collection r rs history end) (last_end rs) clock le time)))
+      found-keeps n m p NoSuchBackup (slice_get rs (length rs - 1)) _ (λ r e. layer-proper [] (next_extent collection r rs history end) (last_end rs) clock le time)))
 
   pub forget-proper : (source : Src) (collection : List ℕ) (start end : Time) → Keeps n m p (forget m source collection start end)
   unfolding forget

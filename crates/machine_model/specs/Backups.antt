@@ -160,9 +160,9 @@ last_end rs = or_zero (latest (map (λ r. r.end) rs))
 abbrev pub next_extent : List ℕ → LayerRecord → List LayerRecord → Bool → Time → Extent
 next_extent collection r rs history end = record { collection = collection; full = r.full; start = last_end rs; end = end; history = history; scope = r.scope }
 
--- an increment after some layers: a subdirectory has at least one
+-- an increment after some layers, of the scope of the last one: a subdirectory has at least one
 abbrev pub increment_after : Machine → List ℕ → List LayerRecord → Bool → Time → Time → Stepped
-increment_after m collection rs history end clock = with_found m NoSuchBackup (slice_get rs 0) (λ r. backup m [] (next_extent collection r rs history end) (last_end rs) clock)
+increment_after m collection rs history end clock = with_found m NoSuchBackup (slice_get rs (length rs - 1)) (λ r. backup m [] (next_extent collection r rs history end) (last_end rs) clock)
 
 -- BACKUP INTO LATEST
 unfoldable pub backup_latest : Machine → List ℕ → Option Time → Bool → Stepped

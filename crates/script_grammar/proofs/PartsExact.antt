@@ -12,12 +12,13 @@ use Rattle.row_codec.specs.declared.rows.Kind.TheVariants.{Int as IntKind}
 use Rattle.script_tokens.specs.declared.token.Token.{Token}
 use Rattle.script_tokens.specs.declared.token.Token.TheVariants.{Word, Number, Text, Bytes, Mark, Bad}
 use Rattle.script_grammar.specs.Grammar.{Form, give, one, fits, word, is_word, mark, is_mark, many, list_of, maybe_one, ending, ◌>>=◌, ◌>>◌}
-use Rattle.script_grammar.specs.Parts.{name, name_of_token, new_name_of, count_of, kind_of, datum_of, time_of, order_of, table, row, rows, time_clause, asof, column, column_and_comma, starts_column, columns, key_column, key, reference, references, collection_of, source_of, in_collection, source_in, with_table, tables, restore_option, new_name_after, options_clause, restore_options, PartsAreExact}
+use Rattle.script_grammar.specs.Parts.{name, name_of_token, new_name_of, count_of, kind_of, datum_of, time_of, order_of, table, row, rows, time_clause, asof, column, column_and_comma, starts_column, columns, key_column, key, reference, references, collection_of, source_of, in_collection, source_in, with_table, tables, with_options, backup_option_of, options_in, backup_options_clause, backup_options, options_after, backup_clauses, restore_option, new_name_after, options_clause, restore_options, PartsAreExact}
 use Rattle.script_grammar.specs.declared.backups.Src.TheVariants.{Latest}
-use Rattle.script_grammar.specs.declared.backups.RestoreOption.{RestoreOption}
+use Rattle.script_grammar.specs.declared.options.BackupOption.TheVariants.{RevisionHistory}
+use Rattle.script_grammar.specs.declared.options.BackupOptions.{BackupOptions}
 use Rattle.script_grammar.proofs.Exactness.{IsPart, IsPartBefore, one_part, part_rest, part_then, part_before, part_before_then, give_rest, give_then, upto_assoc, repeat_then, listed_rest, either_then, wants_bare, refuses_one, refuses_give, word_part, mark_part}
 use Rattle.script_tokens.proofs.Lexing.{apart}
-use Rattle.script_grammar.proofs.Rights.{IsRight, Bars, Opens, explained, then_, word_, then_before_, end_, give_, repeat_, listed_, either_, assoc_, fits_none, opens_mark, opens_word, bars_mark_mark, bars_mark_end, bars_word_end, bars_word_either, bars_give, bars_then, bars_one, opens_one}
+use Rattle.script_grammar.proofs.Rights.{IsRight, Bars, Opens, explained, then_, word_, then_before_, end_, give_, repeat_, listed_, either_, assoc_, fits_none, opens_mark, opens_word, bars_mark_mark, bars_mark_end, bars_word_end, bars_word_either, bars_give, bars_then, bars_assoc, bars_one, opens_one}
 use Rattle.script_grammar.proofs.Families.{Family, family, or_, making_family, lead_word, lead_table, lead_end}
 
 -- ---- one token
@@ -204,6 +205,52 @@ tables_ k right bars =
     assoc_ (list_of table) (λ ts. give (fold with_table [] ts)) k
     (listed_ table (λ ts. give (fold with_table [] ts) >>= k) table_part (λ ts. give_ _ k (right _)) (λ ts. bars_give (is_mark 44) _ k (bars _)))
 
+-- ---- options
+
+-- `WITH option {, option}`, and then what begins with no comma
+with_options_ : {A B C : Type 0} (f : Form A) (say : List A → B) (k : B → Form C) → IsPart f → ((b : B) → IsRight (k b)) → ((b : B) → Bars (is_mark 44) (k b)) → IsRight (with_options f say >>= k)
+with_options_ {A} {B} f say k part right bars =
+    assoc_ (word (codes "with")) (λ _. list_of f >>= chosen) k (word_ (codes "with") _ refl
+    (assoc_ (list_of f) chosen k
+    (listed_ f (λ os. chosen os >>= k) part (λ os. give_ _ k (right _)) (λ os. bars_give (is_mark 44) _ k (bars _)))))
+  where
+    chosen : List A → Form B
+    chosen os = give (say os)
+
+backup_option_part : IsPart (one backup_option_of)
+backup_option_part = one_part backup_option_of (Word (codes "revision_history")) RevisionHistory refl
+
+backup_options_clause_opens : Opens (is_word (codes "with")) backup_options_clause
+unfolding backup_options_clause
+backup_options_clause_opens = opens_word (codes "with") _
+
+backup_options_clause_ : {B : Type 0} (k : BackupOptions → Form B) → ((os : BackupOptions) → IsRight (k os)) → ((os : BackupOptions) → Bars (is_mark 44) (k os)) → IsRight (backup_options_clause >>= k)
+unfolding backup_options_clause
+backup_options_clause_ k right bars = with_options_ (one backup_option_of) options_in k backup_option_part right bars
+
+-- `[WITH option {, option}]`, and then what begins with no comma, and not with WITH
+backup_options_ : {B : Type 0} (k : BackupOptions → Form B) → ((os : BackupOptions) → IsRight (k os)) → ((os : BackupOptions) → Bars (is_mark 44) (k os)) → Bars (is_word (codes "with")) (k (options_in [])) → IsRight (backup_options >>= k)
+unfolding backup_options
+backup_options_ k right commas bars = either_ (is_word (codes "with")) backup_options_clause (give (options_in [])) k backup_options_clause_opens
+    (backup_options_clause_ k right commas) (give_ (options_in []) k (right (options_in []))) (bars_give (is_word (codes "with")) (options_in []) k bars)
+
+-- options don't begin with another word
+backup_options_bar : {B : Type 0} (w : List ℕ) (k : BackupOptions → Form B) → is_word (codes "with") (Word w) ≡ false → Bars (is_word w) (k (options_in [])) → Bars (is_word w) (backup_options >>= k)
+unfolding backup_options
+backup_options_bar w k is bars = bars_word_either w (codes "with") backup_options_clause (give (options_in [])) k backup_options_clause_opens is (bars_give (is_word w) (options_in []) k bars)
+
+-- the clauses of a backup, and then what begins with no comma, and neither with AS nor with WITH
+pub backup_clauses_ : {B : Type 0} (k : Option Time × BackupOptions → Form B) → ((x : Option Time × BackupOptions) → IsRight (k x)) → ((x : Option Time × BackupOptions) → Bars (is_mark 44) (k x))
+    → ((x : Option Time × BackupOptions) → Bars (is_word (codes "as")) (k x)) → ((x : Option Time × BackupOptions) → Bars (is_word (codes "with")) (k x)) → IsRight (backup_clauses >>= k)
+unfolding backup_clauses
+backup_clauses_ {B} k right commas times withs =
+    assoc_ asof options_after k (asof_ (λ at. options_after at >>= k)
+    (λ at. assoc_ backup_options (pair at) k (backup_options_ (λ os. pair at os >>= k) (λ os. give_ _ k (right _)) (λ os. bars_give (is_mark 44) _ k (commas _)) (bars_give (is_word (codes "with")) _ k (withs _))))
+    (bars_assoc (is_word (codes "as")) backup_options (pair None) k (backup_options_bar (codes "as") (λ os. pair None os >>= k) refl (bars_give (is_word (codes "as")) _ k (times _)))))
+  where
+    pair : Option Time → BackupOptions → Form (Option Time × BackupOptions)
+    pair at os = give (at, os)
+
 restore_option_part : IsPart restore_option
 unfolding restore_option
 restore_option_part = part_then _ _ (word_part (codes "new_db_name") refl) (λ _. part_rest _ (part_then (mark 61) _ (mark_part 61 refl) (λ _. part_rest _ (part_then (one collection_of) _ collection_part (λ c. give_rest _)))))
@@ -214,13 +261,7 @@ restore_options_given_opens = opens_word (codes "with") _
 
 restore_options_given_ : {B : Type 0} (k : Option (List ℕ) → Form B) → ((n : Option (List ℕ)) → IsRight (k n)) → ((n : Option (List ℕ)) → Bars (is_mark 44) (k n)) → IsRight (options_clause >>= k)
 unfolding options_clause
-restore_options_given_ k right bars =
-    assoc_ (word (codes "with")) (λ _. list_of restore_option >>= chosen) k (word_ (codes "with") _ refl
-    (assoc_ (list_of restore_option) chosen k
-    (listed_ restore_option (λ os. chosen os >>= k) restore_option_part (λ os. give_ _ k (right _)) (λ os. bars_give (is_mark 44) _ k (bars _)))))
-  where
-    chosen : List RestoreOption → Form (Option (List ℕ))
-    chosen os = give (fold new_name_after None os)
+restore_options_given_ k right bars = with_options_ restore_option (λ os. fold new_name_after None os) k restore_option_part right bars
 
 -- `[WITH option {, option}]`, and then what begins with no comma, and not with WITH
 pub restore_options_ : {B : Type 0} (k : Option (List ℕ) → Form B) → ((n : Option (List ℕ)) → IsRight (k n)) → ((n : Option (List ℕ)) → Bars (is_mark 44) (k n)) → Bars (is_word (codes "with")) (k None) → IsRight (restore_options >>= k)
@@ -249,6 +290,7 @@ parts_exact = record {
   some_tables = explained _ (tables_ _ (λ ts. end_ ts) (λ ts. bars_mark_end 44 ts refl));
   some_options = explained _ (asof_ _ (λ t. restore_options_ _ (λ n. end_ (t, n)) (λ n. bars_mark_end 44 (t, n) refl) (bars_word_end (codes "with") (t, None)))
       (restore_options_bar (codes "as") _ refl (bars_word_end (codes "as") (None, None))));
+  some_clauses = explained _ (backup_clauses_ _ (λ x. end_ x) (λ x. bars_mark_end 44 x refl) (λ x. bars_word_end (codes "as") x) (λ x. bars_word_end (codes "with") x));
 }
   where
     led_by : (w : List ℕ) → fits (is_word w) (Word w) ≡ Some tt → Family ((Some w ∷ None ∷ None ∷ None ∷ []) ∷ []) (word w >> (table >>= (λ t. ending t)))

@@ -6,7 +6,7 @@ use Rattle.script_tokens.specs.declared.token.Token.{Token}
 use Rattle.script_tokens.specs.declared.token.Token.TheVariants.{Word, Number, Text, Bytes, Mark, Bad}
 use Rattle.script_grammar.specs.Grammar.{Form, give, one, fits, word, is_word, mark, is_mark, many, list_of, either, ending, ◌making◌, ◌>>=◌, ◌>>◌}
 use Rattle.script_grammar.specs.Columns.{IsExact}
-use Rattle.script_grammar.proofs.Exactness.{ReadsUpTo, Refuses, Wants, IsPart, IsPartBefore, part_rest, part_before, give_then, upto_assoc, repeat_then, listed_upto, either_then, ending_right, making_upto, word_part, mark_part, fits_test, wants_one, refuses_one, refuses_give, refuses_either, refuses_ending, refuses_then}
+use Rattle.script_grammar.proofs.Exactness.{ReadsUpTo, Refuses, Wants, IsPart, IsPartBefore, part_rest, part_before, give_then, upto_assoc, repeat_then, listed_upto, either_then, ending_right, making_upto, word_part, mark_part, fits_test, wants_one, refuses_one, refuses_give, refuses_either, refuses_ending, refuses_then, refuses_assoc}
 use Rattle.script_tokens.proofs.Lexing.{apart}
 
 -- a form that goes to the end of its line is read right
@@ -119,6 +119,9 @@ bars_give stop a g b = record { bars = refuses_give stop a g b.bars }
 
 pub bars_then : {A B : Type 0} (stop : Token → Bool) (f : Form A) (g : A → Form B) → Bars stop f → Bars stop (f >>= g)
 bars_then stop f g b = record { bars = refuses_then stop f g b.bars }
+
+pub bars_assoc : {A B C : Type 0} (stop : Token → Bool) (f : Form A) (h : A → Form B) (g : B → Form C) → Bars stop (f >>= (λ a. h a >>= g)) → Bars stop ((f >>= h) >>= g)
+bars_assoc stop f h g b = record { bars = refuses_assoc stop f h g b.bars }
 
 pub bars_word_either : {A B : Type 0} (w v : List ℕ) (f g : Form A) (k : A → Form B) → Opens (is_word v) f → is_word v (Word w) ≡ false → Bars (is_word w) (g >>= k) → Bars (is_word w) (either (is_word v) f g >>= k)
 bars_word_either w v f g k opens is b = record { bars = refuses_either (is_word w) (is_word v) f g k opens.opens (from_word w (λ t. is_word v t ≡ false) is) b.bars }

@@ -13,8 +13,11 @@ use Rattle.script_grammar.specs.Grammar.{Form, ◌>>=◌, ◌>>◌, give, one, w
 use Rattle.script_grammar.specs.Columns.{IsExact}
 use Rattle.script_grammar.specs.declared.backups.Src.{Src}
 use Rattle.script_grammar.specs.declared.backups.Src.TheVariants.{Latest, Named}
-use Rattle.script_grammar.specs.declared.backups.RestoreOption.{RestoreOption}
-use Rattle.script_grammar.specs.declared.backups.RestoreOption.TheVariants.{NewName}
+use Rattle.script_grammar.specs.declared.options.BackupOption.{BackupOption}
+use Rattle.script_grammar.specs.declared.options.BackupOption.TheVariants.{RevisionHistory}
+use Rattle.script_grammar.specs.declared.options.BackupOptions.{BackupOptions}
+use Rattle.script_grammar.specs.declared.options.RestoreOption.{RestoreOption}
+use Rattle.script_grammar.specs.declared.options.RestoreOption.TheVariants.{NewName}
 use Rattle.script_tokens.specs.declared.token.Token.{Token}
 use Rattle.script_tokens.specs.declared.token.Token.TheVariants.{Word, Number, Text, Bytes, Mark, Bad}
 
@@ -274,6 +277,53 @@ tables = do
   ts ← list_of table
   give (fold with_table [] ts)
 
+-- ---- options
+
+-- WITH option {, option}
+abbrev pub with_options : {A B : Type 0} → Form A → (List A → B) → Form B
+with_options f say = do
+  word (codes "with")
+  os ← list_of f
+  give (say os)
+
+-- REVISION_HISTORY
+abbrev pub backup_option_of_word : List ℕ → Option BackupOption
+backup_option_of_word w = if bytes_eq w (codes "revision_history") then Some RevisionHistory else None
+
+abbrev pub backup_option_of : Token → Option BackupOption
+backup_option_of (Word v) = backup_option_of_word v
+backup_option_of (Number n) = None
+backup_option_of (Text s) = None
+backup_option_of (Bytes s) = None
+backup_option_of (Mark b) = None
+backup_option_of Bad = None
+
+abbrev pub is_history : BackupOption → Bool
+is_history RevisionHistory = true
+
+-- a field is true exactly where its option stands
+abbrev pub options_in : List BackupOption → BackupOptions
+options_in os = record { history = list_any is_history os }
+
+-- WITH option {, option}
+unfoldable pub backup_options_clause : Form BackupOptions
+backup_options_clause = with_options (one backup_option_of) options_in
+
+-- [WITH option {, option}]
+unfoldable pub backup_options : Form BackupOptions
+backup_options = either (is_word (codes "with")) backup_options_clause (give (options_in []))
+
+abbrev pub options_after : Option Time → Form (Option Time × BackupOptions)
+options_after at = do
+  os ← backup_options
+  give (at, os)
+
+-- [AS OF SYSTEM TIME time] [WITH option {, option}]
+unfoldable pub backup_clauses : Form (Option Time × BackupOptions)
+backup_clauses = do
+  at ← asof
+  options_after at
+
 -- NEW_DB_NAME = coll
 unfoldable pub restore_option : Form RestoreOption
 restore_option = do
@@ -288,10 +338,7 @@ new_name_after before (NewName n) = Some n
 
 -- WITH option {, option}: of the options of a kind the last counts
 unfoldable pub options_clause : Form (Option (List ℕ))
-options_clause = do
-  word (codes "with")
-  os ← list_of restore_option
-  give (fold new_name_after None os)
+options_clause = with_options restore_option (λ os. fold new_name_after None os)
 
 -- [WITH option {, option}]
 unfoldable pub restore_options : Form (Option (List ℕ))
@@ -331,3 +378,4 @@ pub record PartsAreExact : Type 0 where
   pub a_source : IsExact (source_in >>= (λ s. ending s))
   pub some_tables : IsExact (tables >>= (λ ts. ending ts))
   pub some_options : IsExact options_alone
+  pub some_clauses : IsExact (backup_clauses >>= (λ x. ending x))

@@ -1,11 +1,10 @@
-//! The parts of the forms of backups: collections, sources, lists of tables, and options.
-ghost use Rattle.std.specs.Prelude.{◌≡◌, ◌≤◌, length, IfOk, OnOk, None, []};
+//! The parts of the forms of backups: collections, sources and lists of tables.
+ghost use Rattle.std.specs.Prelude.{◌≡◌, ◌≤◌, length, IfOk, OnOk, []};
 ghost use Rattle.std.specs.List.{fold, list_any};
-ghost use Rattle.std.specs.Option.{option_copied};
 ghost use Rattle.script_grammar.specs.Grammar.{Gives, read_one};
-ghost use Rattle.script_grammar.specs.Parts.{table, collection_of, is_no_slash, slash_at, time_after, named_source, source_text, source_word, source_of, in_collection, source_in, is_table, with_table, tables, restore_option, new_name_after, options_clause, restore_options};
+ghost use Rattle.script_grammar.specs.Parts.{table, collection_of, is_no_slash, slash_at, time_after, named_source, source_text, source_word, source_of, in_collection, source_in, is_table, with_table, tables};
 
-use crate::forms::{Item, begins_with_word, list_of, mark, word};
+use crate::forms::{Item, list_of, word};
 use crate::parts::table;
 use crate::{Broken, Token};
 use mvcc_keys::{Hlc, Items, Memory, parse_time};
@@ -204,69 +203,4 @@ pub fn tables(alloc: Global, tokens: &[Token]) -> Result<(Items<(Name, Name)>, &
 {
     let (tables, rest) = list_of::<EachTable>(alloc, tokens)?;
     Ok((Items::from_vec(each_once(alloc, tables.as_slice())?), rest))
-}
-
-/// An option of a restore.
-#[derive(Drop)]
-pub(crate) enum RestoreOption {
-    NewName(Name),
-}
-
-#[derive(Drop)]
-struct EachOption {}
-
-impl Item for EachOption {
-    type Value = RestoreOption;
-
-    ghost reads = { restore_option.read };
-
-    #[tactic(auto, unfolding(crate::specs::Parts::restore_option))]
-    fn read(alloc: Global, tokens: &[Token]) -> Result<(RestoreOption, &[Token]), Broken> {
-        let rest = word(b"new_db_name", tokens)?;
-        let rest = mark(b'=', rest)?;
-        let (name, rest) = collection(alloc, rest)?;
-        Ok((RestoreOption::NewName(name), rest))
-    }
-}
-
-/// The last of the names that options give to a restored database.
-fn new_name_in(options: &[RestoreOption]) -> Option<&Name>
-    ensures { option_copied result ≡ fold new_name_after None options.now }
-{
-    let mut found = None;
-    for option in options {
-        match option {
-            RestoreOption::NewName(name) => found = Some(name),
-        }
-    }
-    found
-}
-
-fn copy_of(alloc: Global, name: Option<&Name>) -> Result<Option<Name>, Memory>
-    ensures { IfOk result (λ n. n ≡ option_copied name.entry) }
-{
-    match name {
-        Some(name) => Ok(Some(name.copy(alloc)?)),
-        None => Ok(None),
-    }
-}
-
-#[tactic(auto, unfolding(crate::specs::Parts::options_clause))]
-fn options_clause(alloc: Global, tokens: &[Token]) -> Result<(Option<Name>, &[Token]), Broken>
-    ensures { Gives (λ x. x.0) (λ x. x.1.now) result (options_clause.read tokens.now) }
-{
-    let rest = word(b"with", tokens)?;
-    let (options, rest) = list_of::<EachOption>(alloc, rest)?;
-    Ok((copy_of(alloc, new_name_in(options.as_slice()))?, rest))
-}
-
-/// `WITH` and options, or nothing: the new name of a restored database, if one is given.
-#[tactic(auto, unfolding(crate::specs::Parts::restore_options))]
-pub fn restore_options(alloc: Global, tokens: &[Token]) -> Result<(Option<Name>, &[Token]), Broken>
-    ensures { Gives (λ x. x.0) (λ x. x.1.now) result (restore_options.read tokens.now) }
-{
-    if begins_with_word(b"with", tokens) {
-        return options_clause(alloc, tokens);
-    }
-    Ok((None, tokens))
 }
