@@ -154,11 +154,11 @@ layer-form m x last next passed name floor =
 
 -- ---- descriptors
 
-AreProper : TablePart → Type 0
-unfoldable AreProper t = AllByRecursion IsProperSchema t.descriptors
+unfoldable AreProper : TablePart → Type 0
+AreProper t = AllByRecursion IsProperSchema t.descriptors
 
-AreFew : TablePart → Type 0
-unfoldable AreFew t = length t.descriptors < 2 ^ 64
+unfoldable AreFew : TablePart → Type 0
+AreFew t = length t.descriptors < 2 ^ 64
 
 option-has : {X : Type 0} (o : Option X) (x : X) → Has x (option_to_list o) → o ≡ Some x
 option-has None x none = absurd none
