@@ -11,7 +11,6 @@ use Rattle.table_descriptors.specs.Descriptors.{Schema}
 use Rattle.list_laws.proofs.Bools.{and-both, and-left, and-right}
 use Rattle.history_model.specs.Histories.{Table, in_force, schemas_of}
 use Rattle.history_model.specs.Layers.{LayerRecord}
-use Rattle.schema_catalog.specs.Catalogs.{history_of}
 use Rattle.range_tombstones.specs.Intervals.{is_between}
 use Rattle.range_tombstones.specs.declared.upto.Upto.TheVariants.{At}
 use Rattle.introduced_spans.specs.PlanLaws.{ascend_after}

@@ -1,5 +1,5 @@
 -- Chains of own layers: what is done with one, and that its layers lie in one subdirectory and lead to the time.
-use Rattle.std.proofs.Common.{◌≡◌, inl, inr, ℕ, zero, suc, ◌-◌, Bool, true, false, cond, ◌&&◌, ◌||◌, refl, sym, ap, ap₂, subst, ◌∙◌, arith, List, [], ◌∷◌, length, map, filter, Option, Some, None, slice_get, filter_map, option_map, true≢false}
+use Rattle.std.proofs.Common.{◌≡◌, inl, inr, ℕ, suc, ◌-◌, Bool, true, false, cond, ◌&&◌, ◌||◌, refl, sym, ap, ap₂, subst, ◌∙◌, arith, List, [], ◌∷◌, length, map, filter, Option, Some, None, slice_get, filter_map, option_map, true≢false}
 use Rattle.std.specs.List.{AllByRecursion, cons_option, find}
 use Rattle.std.specs.Str.{bytes_eq}
 use Rattle.std.proofs.lemmas.List.{length-map}
@@ -39,15 +39,11 @@ use Rattle.cluster_core.specs.Standing.{HasBackups, IsOwnBackup, machine_of}
 use Rattle.cluster_core.specs.Backing.{AreLayersFrom}
 use Rattle.cluster_core.specs.Chains.{IsChain, IsChainFault, IsOwnChain, IsOwnLayer, with_chain}
 use Rattle.cluster_core.proofs.Chosen.{filter_map-has}
+use Rattle.cluster_core.proofs.Storing.{has-place}
 use Rattle.machine_model.proofs.Lists.{got-has}
 use Rattle.list_laws.proofs.Bools.{and-parts}
 
 -- ---- lists
-
-pub has-place : {X : Type 0} (x : X) (xs : List X) → Has x xs → (i : ℕ) × (slice_get xs i ≡ Some x)
-has-place x [] h = absurd h
-has-place x (y ∷ ys) (inl e) = (zero, ap (λ z. Some z) (sym e))
-has-place x (y ∷ ys) (inr h) = let p = has-place x ys h in (suc p.0, p.1)
 
 cons-map : {X Y : Type 0} (f : X → Y) (o : Option X) (xs : List X) → cons_option (option_map f o) (map f xs) ≡ map f (cons_option o xs)
 cons-map f None xs = refl
@@ -61,7 +57,7 @@ at-map f xs (p ∷ ps) = ap₂ cons_option (slice_get-map f xs p) (at-map f xs p
 -- ---- the last of a list
 
 -- what isn't empty has a last one
-pub some-last : {X : Type 0} (x : X) (xs : List X) → (y : X) × (last_of (x ∷ xs) ≡ Some y)
+some-last : {X : Type 0} (x : X) (xs : List X) → (y : X) × (last_of (x ∷ xs) ≡ Some y)
 some-last x [] = (x, refl)
 some-last x (y ∷ ys) =
     let more = some-last y ys in
@@ -200,7 +196,7 @@ module _ (rs : List records.LayerRecord) (t : Time) where
   chain-way (p ∷ ps) e = chain-on zero_time None (λ l first. sym (eq-is zero_time l.start first)) p ps e
 
   -- the records at the places of a cover form a chain
-  pub cover-chain : (places : List ℕ) → cover links t ≡ Places places → IsChainTo t (layers_at rs places)
+  cover-chain : (places : List ℕ) → cover links t ≡ Places places → IsChainTo t (layers_at rs places)
   unfolding cover best_way
   cover-chain places e = by (best_way (chain_to t) links) refl e
     where
@@ -226,7 +222,7 @@ module _ (c : ClusterState) (tables : List Table) (b : HasBackups c tables) wher
       }
 
   -- an own layer of a chain is in the book
-  pub own-layer : (x : Chain) → IsOwnChain c.book x → (p : LayerName × Manifest) → Has p x.layers.items → Has p c.book.layers
+  own-layer : (x : Chain) → IsOwnChain c.book x → (p : LayerName × Manifest) → Has p x.layers.items → Has p c.book.layers
   own-layer x chain p has = (has-AllByRecursion (IsOwnLayer c.book chain.collection chain.full) p x.layers.items chain.layers has).own
 
   pub own-proper : (x : Chain) → IsOwnChain c.book x → AreProperLayers x.layers.items

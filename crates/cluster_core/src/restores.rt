@@ -1,5 +1,5 @@
 //! The command that restores a database.
-ghost use Rattle.std.specs.Prelude.{◌≡◌, ◌∷◌, ◌++◌, ◌<◌, ◌≤◌, ◌+◌, ◌^◌, ℕ, [], true, None, Some, List, length, map, unwrap_or, IfErr, IfOk, OnOk};
+ghost use Rattle.std.specs.Prelude.{◌≡◌, ◌∷◌, ◌++◌, ◌<◌, ◌≤◌, ◌+◌, ◌^◌, [], true, None, Some, List, length, map, unwrap_or, IfErr, IfOk, OnOk};
 ghost use Rattle.std.specs.List.{AllByRecursion, range_with_len};
 ghost use Rattle.mvcc_keys.specs.Times.{IsTime, next};
 ghost use Rattle.table_descriptors.specs.declared.scopes.Scope.{Scope};
