@@ -4,8 +4,8 @@ use Rattle.std.specs.List.{fold}
 use Rattle.std.proofs.lemmas.List.{length-map, length_push}
 use Rattle.std.proofs.lemmas.Option.{slice_get-map}
 use Rattle.std.proofs.lemmas.Slice.Eq.{bytes_eq-Decides}
-use Rattle.mvcc_keys.specs.Times.{Time, later, latest, or_zero, time_eq, time_le, time_lt, zero_time}
-use Rattle.mvcc_keys.proofs.TimeOrder.{eq-is, le-refl, le-trans, lt-le, lt-le-absurd, not_lt-le, zero-le}
+use Rattle.mvcc_keys.specs.Times.{Time, later, or_zero, time_le, time_lt, zero_time}
+use Rattle.mvcc_keys.proofs.TimeOrder.{le-refl, le-trans, lt-le, lt-le-absurd, not_lt-le, zero-le}
 use Rattle.table_descriptors.specs.declared.scopes.Scope.{Scope}
 use Rattle.list_laws.specs.Members.{Has}
 use Rattle.list_laws.proofs.Bools.{and-parts}
