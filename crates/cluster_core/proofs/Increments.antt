@@ -1,11 +1,11 @@
 -- Where a layer goes on: after the last full backup, or after the layers of a subdirectory.
-use Rattle.std.proofs.Common.{◌≡◌, inl, inr, ℕ, ◌-◌, Bool, true, false, List, [], ◌∷◌, map, filter, length, Option, Some, None, slice_get, option_map, refl, sym, ap, ap₂, subst, ◌∙◌}
+use Rattle.std.proofs.Common.{◌≡◌, inl, inr, ℕ, ◌-◌, ◌<◌, arith, if◌then◌else◌, Bool, true, false, List, [], ◌∷◌, ◌++◌, map, filter, length, Option, Some, None, slice_get, option_map, refl, sym, ap, ap₂, subst, ◌∙◌}
 use Rattle.std.specs.List.{fold}
-use Rattle.std.proofs.lemmas.List.{length-map}
+use Rattle.std.proofs.lemmas.List.{length-map, length_push}
 use Rattle.std.proofs.lemmas.Option.{slice_get-map}
 use Rattle.std.proofs.lemmas.Slice.Eq.{bytes_eq-Decides}
-use Rattle.mvcc_keys.specs.Times.{Time, later, latest, or_zero, time_eq, time_le, time_lt, zero_time}
-use Rattle.mvcc_keys.proofs.TimeOrder.{eq-is, le-refl, le-trans, lt-le, lt-le-absurd, not_lt-le, zero-le}
+use Rattle.mvcc_keys.specs.Times.{Time, later, or_zero, time_le, time_lt, zero_time}
+use Rattle.mvcc_keys.proofs.TimeOrder.{le-refl, le-trans, lt-le, lt-le-absurd, not_lt-le, zero-le}
 use Rattle.table_descriptors.specs.declared.scopes.Scope.{Scope}
 use Rattle.list_laws.specs.Members.{Has}
 use Rattle.list_laws.proofs.Bools.{and-parts}
@@ -69,10 +69,12 @@ no-later-full book collection r has is =
     subst (λ (t : Time). time_le r.full t ≡ true) (last_full_map record_of name_of_record collection book.layers)
     (last-greatest name_of_record collection (map record_of book.layers) r has ((bytes_eq-Decides r.collection collection).1 is))
 
+abbrev pub extent_from : List ℕ → Time → Time → Time → Bool → Scope → Extent
+extent_from collection full start end history scope = record { collection = collection; full = full; start = start; end = end; history = history; scope = scope }
+
 -- the same place and span, by the name and the start
-pub same-extent : (collection other : List ℕ) (full start begin end : Time) (history : Bool) (scope : Scope) → other ≡ collection → begin ≡ start
-    → record { collection = other; full = full; start = begin; end = end; history = history; scope = scope } ≡ (record { collection = collection; full = full; start = start; end = end; history = history; scope = scope } : Extent)
-same-extent collection other full start begin end history scope named from = ap₂ (λ (n : List ℕ) (t : Time). record { collection = n; full = full; start = t; end = end; history = history; scope = scope }) named from
+pub same-extent : (collection other : List ℕ) (full start begin end : Time) (history : Bool) (scope : Scope) → other ≡ collection → begin ≡ start → extent_from other full begin end history scope ≡ extent_from collection full start end history scope
+same-extent collection other full start begin end history scope named from = ap₂ (λ (n : List ℕ) (t : Time). extent_from n full t end history scope) named from
 
 pub full-next : (collection : List ℕ) (scope : Scope) (history : Bool) (end last : Time) (x : Extent) → x ≡ full_extent collection scope history end → IsProperScope scope → IsNext x last
 full-next collection scope history end last x is proper = subst (λ (y : Extent). IsNext y last) (sym is) (record { scope = proper; from = zero-le last; full = inl refl })
@@ -135,6 +137,22 @@ module _ (m : Machine) (collection : List ℕ) (layers : List (LayerName × Mani
 
   pub after-none : slice_get layers (length layers - 1) ≡ None → increment_after m collection (map record_of layers) history end clock ≡ refused m NoSuchBackup
   after-none got = ap (λ (o : Option LayerRecord). with_found m NoSuchBackup o with-last) (last-record None got)
+
+-- ---- the last of some layers
+
+end-got : (ps : List (LayerName × Manifest)) (p : LayerName × Manifest) → slice_get (ps ++ p ∷ []) (length ps) ≡ Some p
+end-got [] p = refl
+end-got (q ∷ ps) p = end-got ps p
+
+pub last-got : (layers ps : List (LayerName × Manifest)) (p : LayerName × Manifest) → layers ≡ ps ++ p ∷ [] → slice_get layers (length layers - 1) ≡ Some p
+last-got layers ps p is =
+    let long = length_push ps p in
+    let place : length (ps ++ p ∷ []) - 1 ≡ length ps = omega (arith, long) in
+    subst (λ (ls : List (LayerName × Manifest)). slice_get ls (length ls - 1) ≡ Some p) (sym is) (ap (slice_get (ps ++ p ∷ [])) place ∙ end-got ps p)
+
+pub none-got : (layers : List (LayerName × Manifest)) → (0 < length layers → ⊥) → slice_get layers (length layers - 1) ≡ None
+none-got [] never = refl
+none-got (p ∷ ps) never = absurd (never (omega arith))
 
 pub last-has : (layers : List (LayerName × Manifest)) (p : LayerName × Manifest) → slice_get layers (length layers - 1) ≡ Some p → Has p layers
 last-has layers p got = got-has layers (length layers - 1) p got

@@ -1,5 +1,5 @@
 -- BACKUP INTO LATEST up to the layers of its subdirectory.
-use Rattle.std.proofs.Common.{◌≡◌, ℕ, Bool, List, map, Option, Some, None, refl, sym, ap, subst, ◌∙◌, Result, Err, IsErrAnd}
+use Rattle.std.proofs.Common.{◌≡◌, ℕ, Bool, List, map, Option, Some, None, sym, ap, subst, ◌∙◌, Result, Err, IsErrAnd}
 use Rattle.mvcc_keys.specs.Times.{Time}
 use Rattle.history_model.specs.Histories.{Table}
 use Rattle.history_model.specs.Layers.{LayerRecord}
@@ -12,10 +12,9 @@ use Rattle.layer_book.specs.Subdirectories.{subdirectories_of}
 use Rattle.script_grammar.specs.declared.backups.Src.{Src}
 use Rattle.script_grammar.specs.declared.backups.Src.TheVariants.{Latest}
 use Rattle.reply_texts.specs.declared.answers.Answer.{Answer}
-use Rattle.reply_texts.specs.declared.refusals.Refusal.{Refusal}
 use Rattle.reply_texts.specs.declared.refusals.Refusal.TheVariants.{NoSuchBackup}
 use Rattle.machine_model.specs.Machine.{Machine, Stepped, refused, with_found}
-use Rattle.machine_model.specs.Backups.{backup_latest, ending, increment_after, layers_in, source_among, with_source}
+use Rattle.machine_model.specs.Backups.{ending, increment_after, layers_in, source_among, with_source}
 use Rattle.cluster_core.specs.declared.halts.Halt.{Halt}
 use Rattle.cluster_core.specs.declared.halts.Halt.TheVariants.{Refused, Disk, Memory}
 use Rattle.cluster_core.specs.ClusterView.{ClusterState, record_of}
@@ -58,8 +57,8 @@ module _ (c : ClusterState) (collection : List ℕ) (history : Bool) where
       let s = may.stands in
       let means = ending m at (after-latest m collection history) in
       as-returned (λ (y : Result Answer Halt). Runs c means to y v v) r e is (by e fault means (λ none.
-          ending-is c m s at x (after-latest m collection history) ends
-          ∙ subst (λ (n : Machine). after-latest n collection history x.0 x.1 ≡ refused n NoSuchBackup) (sym s.machine_is) (none-over s.tables x.0 x.1 none)) may)
+      ending-is c m s at x (after-latest m collection history) ends
+      ∙ subst (λ (n : Machine). after-latest n collection history x.0 x.1 ≡ refused n NoSuchBackup) (sym s.machine_is) (none-over s.tables x.0 x.1 none)) may)
     where
       by : (e : Halt) → IsSourceFault c.book Latest collection e → (means : Stepped) → (source_among Latest (subdirectories_of name_in collection c.book.layers) ≡ None → means ≡ refused m NoSuchBackup) → MayStep c m means to v → Runs c means to (Err e) v v
       by (Refused refusal) fault means stops may = halted-runs c m means to v (Refused refusal) (Some NoSuchBackup) (ap Some (sym fault.0)) (λ other same. stops fault.1 ∙ same-refused m NoSuchBackup other same) only may.stands may.ready

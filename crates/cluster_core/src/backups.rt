@@ -103,19 +103,29 @@ fn is_counted(part: &TablePart)
 
 /// The same of each table of a manifest. It is called for the proof alone, which has to know that
 /// the manifest can be spelled.
-fn are_counted(m: &Manifest)
-    ensures { AllByRecursion (λ (part : TablePart). length part.descriptors < 2 ^ 64) m.now.tables }
+fn are_counted(parts: &[TablePart])
+    ensures { AllByRecursion (λ (part : TablePart). length part.descriptors < 2 ^ 64) parts.now }
 {
-    for part in m.tables.as_slice() {
+    for part in parts {
         is_counted(part);
     }
+}
+
+fn ends_of(alloc: Global, layers: &[(LayerName, Manifest)]) -> Result<Vec<Hlc>, Memory>
+    ensures { IfOk result (λ v. v.items ≡ map (λ r. r.end) (map record_of layers.now)) }
+{
+    let mut ends = Vec::new(alloc);
+    for entry in layers {
+        ends.push(entry.0.end)?;
+    }
+    Ok(ends)
 }
 
 /// The greatest end of some layers, or zero.
 fn last_end(alloc: Global, layers: &[(LayerName, Manifest)]) -> Result<Hlc, Memory>
     ensures { IfOk result (λ t. t ≡ last_end (map record_of layers.now)) }
 {
-    let ends: Vec<Hlc> = layers.iter().map(|entry| entry.0.end).collect(alloc)?;
+    let ends = ends_of(alloc, layers)?;
     Ok(time_or_zero(latest(&ends)))
 }
 
@@ -234,7 +244,7 @@ impl Cluster {
         let name = self.layer_name(&extent)?;
         let Extent { history, scope, .. } = extent;
         let job = BackupJob::start(self.alloc, name, history, scope, plan, &self.catalog)?;
-        are_counted(job.manifest());
+        are_counted(job.manifest().tables.as_slice());
         Ok(job)
     }
 

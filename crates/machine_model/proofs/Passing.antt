@@ -1,7 +1,6 @@
 -- What holds where no test refuses a command, and no test a backup.
-use Rattle.std.proofs.Common.{◌≡◌, ℕ, Bool, true, false, not, List, [], ◌∷◌, ◌++◌, Option, Some, None, refl}
-use Rattle.std.specs.Prelude.{◌&&◌, option_and_then, option_map, unwrap_or}
-use Rattle.std.specs.List.{find}
+use Rattle.std.proofs.Common.{◌≡◌, ℕ, Bool, true, false, List, [], ◌∷◌, ◌++◌, Option, Some, None, refl}
+use Rattle.std.specs.Prelude.{option_and_then, option_map}
 use Rattle.mvcc_keys.specs.Times.{Time, time_le, time_lt}
 use Rattle.mvcc_keys.proofs.TimeOrder.{le-trans, lt-le, not_le-lt}
 use Rattle.table_descriptors.specs.declared.scopes.Scope.{Scope}
@@ -34,12 +33,12 @@ pub end-after : (end last : Time) → end_refusal end last ≡ None → time_lt 
 end-after end last = by (time_le end last) refl
   where
     by : (b : Bool) → time_le end last ≡ b → refusal_if b (EndNotAfter end last) ≡ None → time_lt last end ≡ true
-    by true le no = cc no
-    by false gt e = not_le-lt end last gt
+    by true le none = cc none
+    by false gt e = not_le-lt last end gt
 
 -- a test that found something is no want of memory
-IsNamed : Option PlanFault → Type 0
-unfoldable IsNamed f = f ≡ Some plan.Memory → ⊥
+unfoldable IsNamed : Option PlanFault → Type 0
+IsNamed f = f ≡ Some plan.Memory → ⊥
 
 both-named : (a b : Option PlanFault) → IsNamed a → IsNamed b → IsNamed (first_fault (a ∷ b ∷ []))
 unfolding IsNamed

@@ -1,5 +1,5 @@
 -- No command changes what was true up to the clock.
-use Rattle.std.proofs.Common.{◌≡◌, ◌≢◌, ◌+◌, nat_lt, inl, inr, ⊎_elim, ℕ, ◌<◌, length, Bool, true, false, not, List, [], ◌∷◌, ◌++◌, map, eqb, refl, sym, ap, subst, ◌∙◌, arith}
+use Rattle.std.proofs.Common.{◌≡◌, ◌≢◌, ◌+◌, ◌-◌, nat_lt, inl, inr, ⊎_elim, ℕ, ◌<◌, length, Bool, true, false, not, List, [], ◌∷◌, ◌++◌, map, eqb, refl, sym, ap, subst, ◌∙◌, arith}
 use Rattle.std.specs.Prelude.{Option, Some, None, option_map, option_and_then, unwrap_or, slice_get, slice_set}
 use Rattle.std.specs.List.{find}
 use Rattle.std.proofs.lemmas.Bool.{cases_Bool}
@@ -13,7 +13,6 @@ use Rattle.table_descriptors.specs.declared.changes.Change.TheVariants.{Add, Rem
 use Rattle.table_descriptors.specs.declared.columns.State.TheVariants.{Dropped, Public}
 use Rattle.table_descriptors.specs.Descriptors.{Schema, new_schema, changed_schema}
 use Rattle.table_descriptors.specs.Restoring.{restored_schema}
-use Rattle.table_descriptors.specs.declared.scopes.Scope.{Scope}
 use Rattle.table_descriptors.specs.declared.scopes.Scope.TheVariants.{Database, Tables}
 use Rattle.fact_model.specs.Facts.{Del, DelRange, date}
 use Rattle.list_laws.specs.Members.{Has}
@@ -43,6 +42,7 @@ use Rattle.id_remap.specs.declared.targets.Target.{Target}
 use Rattle.id_remap.specs.declared.targets.Target.TheVariants as target
 use Rattle.id_remap.specs.Remapping.{new_ids, remapped_schema}
 use Rattle.script_grammar.specs.declared.backups.Src.{Src}
+use Rattle.script_grammar.specs.declared.backups.Src.TheVariants.{Latest}
 use Rattle.layer_objects.specs.Objects.{name_of_record}
 use Rattle.introduced_spans.proofs.Untold.{later-untold}
 use Rattle.layer_objects.specs.Past.{IsLonger, KeepsPast}

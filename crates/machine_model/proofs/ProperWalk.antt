@@ -31,7 +31,7 @@ use Rattle.reply_texts.specs.declared.refusals.Refusal.TheVariants.{NoSuchBackup
 use Rattle.reply_texts.specs.declared.answers.Answer.{Answer}
 use Rattle.reply_texts.specs.declared.answers.Answer.TheVariants.{RangeDeleted, RowsShown, RowsWritten}
 use Rattle.script_grammar.specs.declared.backups.Src.{Src}
-use Rattle.table_descriptors.specs.declared.scopes.Scope.{Scope}
+use Rattle.script_grammar.specs.declared.backups.Src.TheVariants.{Latest}
 use Rattle.table_descriptors.specs.declared.scopes.Scope.TheVariants.{Database, Tables}
 use Rattle.command_lang.specs.Typed.{AreColumns, AreValues, IsKeyOfColumns, IsName, IsTableName}
 use Rattle.machine_model.specs.declared.extents.Extent.{Extent}
