@@ -51,6 +51,10 @@ extent_from collection full start end history scope = record { collection = coll
 pub same-extent : (collection other : List ℕ) (full start begin end : Time) (history : Bool) (scope : Scope) → other ≡ collection → begin ≡ start → extent_from other full begin end history scope ≡ extent_from collection full start end history scope
 same-extent collection other full start begin end history scope named from = ap₂ (λ (n : List ℕ) (t : Time). extent_from n full t end history scope) named from
 
+-- and by the scope
+pub same-next : (collection other : List ℕ) (full start end : Time) (history : Bool) (scope owned : Scope) → other ≡ collection → owned ≡ scope → extent_from other full start end history owned ≡ extent_from collection full start end history scope
+same-next collection other full start end history scope owned named scoped = ap₂ (λ (n : List ℕ) (s : Scope). extent_from n full start end history s) named scoped
+
 pub full-next : (collection : List ℕ) (scope : Scope) (history : Bool) (end last : Time) (x : Extent) → x ≡ full_extent collection scope history end → IsProperScope scope → IsNext x last
 full-next collection scope history end last x is proper = subst (λ (y : Extent). IsNext y last) (sym is) (record { scope = proper; from = zero-le last; full = inl refl })
 

@@ -1,29 +1,18 @@
 -- BACKUP INTO LATEST up to the layers of its subdirectory.
-use Rattle.std.proofs.Common.{◌≡◌, ℕ, Bool, List, map, Option, Some, None, sym, ap, subst, ◌∙◌, Result, Err, IsErrAnd}
+use Rattle.std.proofs.Common.{◌≡◌, ℕ, Bool, List, [], ◌++◌, Option, Some, None, sym, ap, subst, ◌∙◌, Result, Err, IsErrAnd}
 use Rattle.mvcc_keys.specs.Times.{Time}
 use Rattle.history_model.specs.Histories.{Table}
-use Rattle.history_model.specs.Layers.{LayerRecord}
-use Rattle.outside_world.specs.Disk.{View, IsImage, IsKnown}
-use Rattle.outside_world.specs.Objects.{Objects}
-use Rattle.layer_manifest.specs.declared.manifest.Manifest.{Manifest}
-use Rattle.layer_model.specs.declared.names.LayerName.{LayerName}
 use Rattle.layer_book.specs.Books.{name_in}
 use Rattle.layer_book.specs.Subdirectories.{subdirectories_of}
-use Rattle.script_grammar.specs.declared.backups.Src.{Src}
 use Rattle.script_grammar.specs.declared.backups.Src.TheVariants.{Latest}
-use Rattle.reply_texts.specs.declared.answers.Answer.{Answer}
 use Rattle.reply_texts.specs.declared.refusals.Refusal.TheVariants.{NoSuchBackup}
 use Rattle.machine_model.specs.Machine.{Machine, Stepped, refused, with_found}
-use Rattle.machine_model.specs.Backups.{ending, increment_after, layers_in, source_among, with_source}
-use Rattle.cluster_core.specs.declared.halts.Halt.{Halt}
-use Rattle.cluster_core.specs.declared.halts.Halt.TheVariants.{Refused, Disk, Memory}
-use Rattle.cluster_core.specs.ClusterView.{ClusterState, record_of}
-use Rattle.cluster_core.specs.Standing.{MayStep, Runs, StandsFor, machine_of}
-use Rattle.cluster_core.specs.Backing.{AreLayersFrom, IsEnding, IsSourceFault}
-use Rattle.cluster_core.proofs.BackingUp.{as-returned, halted-runs}
+use Rattle.machine_model.specs.Backups.{ending, increment_in, source_among, with_source}
+use Rattle.cluster_core.specs.ClusterView.{ClusterState}
+use Rattle.cluster_core.specs.Standing.{StandsFor, machine_of}
+use Rattle.cluster_core.specs.Backing.{IsEnding}
 use Rattle.cluster_core.proofs.Ending.{ending-is}
-use Rattle.cluster_core.proofs.Flow.{same-refused}
-use Rattle.cluster_core.proofs.Sources.{layers-are, subdirectories-in}
+use Rattle.cluster_core.proofs.Sources.{subdirectories-are}
 
 -- LATEST, and what is done in its subdirectory
 abbrev pub after-latest : Machine → List ℕ → Bool → Time → Time → Stepped
