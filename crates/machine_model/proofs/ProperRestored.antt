@@ -1,9 +1,16 @@
--- A table that a restore makes is a proper one.
-use Rattle.std.proofs.Common.{◌≡◌, ◌⊎◌, inl, inr, ⊎_elim, ℕ, zero, suc, ◌+◌, ◌<◌, ◌≤◌, ◌^◌, Bool, true, false, refl, sym, ap, subst, ◌∙◌, arith, List, [], ◌∷◌, map, Option, Some, None, slice_get, Ordering, Less, Equal, is_eq}
+-- A table that a restore makes is a proper one, and tables get the next ids in order.
+use Rattle.std.proofs.Common.{◌≡◌, ◌⊎◌, inl, inr, ⊎_elim, ℕ, zero, suc, ◌+◌, ◌≤◌, nat_eq, nat_le, Bool, true, false, refl, sym, ap, subst, ◌∙◌, arith, List, [], ◌∷◌, map, filter, filter_map, length, Option, Some, None, slice_get, Ordering, Less, Equal, is_eq}
+use Rattle.std.specs.List.{cons_option, list_all, range_with_len}
+use Rattle.std.specs.Map.{lookup}
+use Rattle.std.proofs.lemmas.Bool.Decides.{nat_tests}
+use Rattle.table_descriptors.specs.Fields.{is_id}
+use Rattle.key_rewriter.specs.Ids.{IsIdMap, are_ascending, ascends_from, numbered}
+use Rattle.key_rewriter.proofs.Pairs.{partner-small}
+use Rattle.id_remap.proofs.Order.{in_order}
 use Rattle.std.specs.Ordering.{on, ordering_reverse}
 use Rattle.std.specs.Cmp.{IsTotalOrder}
 use Rattle.std.specs.List.Sorted.{IsStrictlySortedBy}
-use Rattle.std.proofs.lemmas.Bool.{cases_Bool}
+use Rattle.std.proofs.lemmas.Bool.{and_parts, cases_Bool}
 use Rattle.std.proofs.lemmas.Cmp.{on_total, tied_itself}
 use Rattle.mvcc_keys.specs.Times.{IsTime, Time, zero_time, time_le, time_lt}
 use Rattle.mvcc_keys.proofs.TimeOrder.{le-refl, lt-le, lt-le-le}
@@ -16,7 +23,7 @@ use Rattle.table_descriptors.specs.declared.changes.Change.TheVariants.{Become}
 use Rattle.table_descriptors.specs.Descriptors.{IsProperSchema, Schema, changed_schema, key_kinds}
 use Rattle.table_descriptors.specs.Restoring.{restored_schema}
 use Rattle.table_descriptors.proofs.SchemaLaws.{changed-proper}
-use Rattle.fact_model.specs.Facts.{Fact, Put, Del, DelRange, date, newest, value, version_of}
+use Rattle.fact_model.specs.Facts.{Put, Del, DelRange, date, newest, value, version_of}
 use Rattle.fact_model.specs.Mapped.{KeysMeet, map_fact, map_item}
 use Rattle.fact_model.specs.Newest.{IsNewest}
 use Rattle.fact_model.specs.Ordered.{ordered}
@@ -35,7 +42,7 @@ use Rattle.table_rows.proofs.Coded.{keys-ordered}
 use Rattle.layer_objects.specs.Objects.{by_id, table_facts}
 use Rattle.layer_objects.specs.Storable.{IsSized}
 use Rattle.id_remap.specs.declared.targets.Target.{Target}
-use Rattle.id_remap.specs.Remapping.{database_for, new_id, new_references, remapped_schema, target_name}
+use Rattle.id_remap.specs.Remapping.{database_for, ids_of, new_id, new_references, remapped_schema, target_name}
 use Rattle.machine_model.specs.Tables.{new_table}
 use Rattle.machine_model.specs.TableRows.{extended}
 use Rattle.machine_model.specs.Restores.{put_anew, restored_table, rows_to_restore}
@@ -188,3 +195,85 @@ module _ (tables : List Table) (ids : List (ℕ × ℕ)) (to : Target) (t at pub
         first-name d (new_id ids d.id) to (new_references ids d.references) at name (sym (named-then name [] first x le) ∙ (sym (named-before name (first ∷ []) second x not) ∙ is)),
       )
       by (inr not) (inr never) = absurd (let no : false ≡ true = sym (named-before name [] first x never) ∙ (sym (named-before name (first ∷ []) second x not) ∙ is) in cc no)
+
+-- ---- ids that ascend
+
+pub ascend-lower : (a b : ℕ) (xs : List ℕ) → a ≤ b → ascends_from b xs ≡ true → ascends_from a xs ≡ true
+ascend-lower a b [] le e = refl
+ascend-lower a b (x ∷ xs) le e =
+    let p = and_parts (nat_le b x) (ascends_from (x + 1) xs) e in
+    let l = p.0 in
+    let low : nat_le a x ≡ true = grind (arith, nat_tests, l, le) in rw low p.1
+
+pub ascend-range : (a n : ℕ) → ascends_from a (range_with_len a n) ≡ true
+ascend-range a zero = refl
+ascend-range a (suc n) = let own : nat_le a a ≡ true = grind (arith, nat_tests) in rw own (ascend-range (a + 1) n)
+
+pub ascend-filter : (p : ℕ → Bool) (k : ℕ) (xs : List ℕ) → ascends_from k xs ≡ true → ascends_from k (filter p xs) ≡ true
+ascend-filter p k [] e = refl
+ascend-filter p k (x ∷ xs) e =
+    let parts = and_parts (nat_le k x) (ascends_from (x + 1) xs) e in
+    let l = parts.0 in
+    let le : k ≤ x + 1 = grind (arith, nat_tests, l) in
+    elim (cases_Bool (p x)) [ inl t ↦ rw (t, l) (ascend-filter p (x + 1) xs parts.1) | inr f ↦ rw f (ascend-filter p k xs (ascend-lower k (x + 1) xs le parts.1)) ]
+
+-- what is found by ids has these ids
+pub ascend-found : (f : ℕ → Option Schema) (k : ℕ) (xs : List ℕ) → ((id : ℕ) (d : Schema) → f id ≡ Some d → d.id ≡ id) → ascends_from k xs ≡ true → ascends_from k (ids_of (filter_map f xs)) ≡ true
+ascend-found f k [] own e = refl
+ascend-found f k (x ∷ xs) own e = by (f x) refl (ascend-found f (x + 1) xs own parts.1)
+  where
+    parts : (nat_le k x ≡ true) × (ascends_from (x + 1) xs ≡ true)
+    parts = and_parts (nat_le k x) (ascends_from (x + 1) xs) e
+
+    by : (o : Option Schema) → f x ≡ o → ascends_from (x + 1) (ids_of (filter_map f xs)) ≡ true → ascends_from k (ids_of (cons_option o (filter_map f xs))) ≡ true
+    by None is rest = let l = parts.0 in ascend-lower k (x + 1) _ (grind (arith, nat_tests, l)) rest
+    by (Some d) is rest =
+        let same = own x d is in
+        let l = parts.0 in
+        let low : nat_le k d.id ≡ true = grind (arith, nat_tests, l, same) in
+        rw low (subst (λ (i : ℕ). ascends_from (i + 1) (ids_of (filter_map f xs)) ≡ true) (sym same) rest)
+
+ids-above : (k : ℕ) (ds : List Schema) (d : Schema) → ascends_from k (ids_of ds) ≡ true → Has d ds → k ≤ d.id
+ids-above k [] d e has = absurd has
+ids-above k (x ∷ xs) d e has =
+    let parts = and_parts (nat_le k x.id) (ascends_from (x.id + 1) (ids_of xs)) e in
+    let l = parts.0 in
+    let low : k ≤ x.id = grind (arith, nat_tests, l) in
+    ⊎_elim (λ (is : d ≡ x). subst (λ (y : Schema). k ≤ y.id) (sym is) low) (λ more. let up = ids-above (x.id + 1) xs d parts.1 more in omega (arith, low, up)) has
+
+pub ids-apart : (k : ℕ) (ds : List Schema) → ascends_from k (ids_of ds) ≡ true → NoTwo (λ (a b : Schema). a.id ≡ b.id) ds
+ids-apart k [] e i j x y gx gy same = cc gx
+ids-apart k (z ∷ zs) e zero zero x y gx gy same = refl
+ids-apart k (z ∷ zs) e zero (suc j) x y gx gy same =
+    let is : z ≡ x = cc gx in
+    let first = ap (λ (w : Schema). w.id) is in
+    let up = ids-above (z.id + 1) zs y (and_parts (nat_le k z.id) _ e).1 (got-has zs j y gy) in absurd (omega (arith, first, up, same))
+ids-apart k (z ∷ zs) e (suc i) zero x y gx gy same =
+    let is : z ≡ y = cc gy in
+    let first = ap (λ (w : Schema). w.id) is in
+    let up = ids-above (z.id + 1) zs x (and_parts (nat_le k z.id) _ e).1 (got-has zs i x gx) in absurd (omega (arith, first, up, same))
+ids-apart k (z ∷ zs) e (suc i) (suc j) x y gx gy same = ap suc (ids-apart (z.id + 1) zs (and_parts (nat_le k z.id) _ e).1 i j x y gx gy same)
+
+range-at : (a n k y : ℕ) → slice_get (range_with_len a n) k ≡ Some y → y ≡ a + k
+range-at a zero k y e = cc e
+range-at a (suc n) zero y e = let is : a ≡ y = cc e in omega (arith, is)
+range-at a (suc n) (suc k) y e = let rest = range-at (a + 1) n k y e in omega (arith, rest)
+
+-- ---- new ids
+
+-- chosen tables get the ids from n on, in order
+pub new-id-at : (n : ℕ) (to : Target) (t : Time) (chosen : List Schema) (k : ℕ) (d : Schema) → are_ascending (ids_of chosen) ≡ true → slice_get chosen k ≡ Some d → (remapped_schema (numbered n (ids_of chosen)) to t d).id ≡ n + k
+new-id-at n to t chosen k d up got =
+    let ids = numbered n (ids_of chosen) in
+    let make = remapped_schema ids to t in
+    let all = in_order n to t (ids_of chosen) ids chosen (map make chosen) up refl refl refl in
+    let here : slice_get (ids_of (map make chosen)) k ≡ Some (make d).id = unmapped (λ (x : Schema). x.id) (map make chosen) k (make d) (unmapped make chosen k d got) in
+    range-at n (length chosen) k (make d).id (ap (λ (xs : List ℕ). slice_get xs k) (sym all) ∙ here)
+
+pub new-small : (ids : List (ℕ × ℕ)) (olds : List ℕ) → IsIdMap ids → list_all is_id (new_references ids olds) ≡ true
+new-small ids [] is = refl
+new-small ids (old ∷ olds) is = by (lookup (nat_eq old) ids) refl (new-small ids olds is)
+  where
+    by : (o : Option ℕ) → lookup (nat_eq old) ids ≡ o → list_all is_id (new_references ids olds) ≡ true → list_all is_id (cons_option o (new_references ids olds)) ≡ true
+    by None e rest = rest
+    by (Some n) e rest = let l = partner-small old n ids is e in let fits : is_id n ≡ true = grind (arith, nat_tests, l) in rw fits rest

@@ -1,26 +1,23 @@
 -- A restore leads from a proper machine to a proper one.
-use Rattle.std.proofs.Common.{◌≡◌, ◌⊎◌, inl, inr, ⊎_elim, ℕ, zero, suc, ◌+◌, ◌-◌, ◌<◌, ◌≤◌, ◌^◌, ◌&&◌, ◌||◌, nat_le, nat_lt, nat_eq, Bool, true, false, refl, sym, ap, ap₂, subst, ◌∙◌, arith, List, [], ◌∷◌, ◌++◌, map, length, filter, filter_map, Option, Some, None, option_map, slice_get, unwrap_or, is_some, if◌then◌else◌}
-use Rattle.std.specs.Prelude.{option_and_then, sum_by}
-use Rattle.std.specs.List.{AllByRecursion, cons_option, find, list_all, list_any, range_with_len}
-use Rattle.std.specs.Map.{lookup}
+use Rattle.std.proofs.Common.{◌≡◌, ◌⊎◌, inl, inr, ℕ, ◌+◌, ◌-◌, ◌<◌, ◌≤◌, ◌^◌, ◌&&◌, nat_lt, Bool, true, false, refl, sym, ap, ap₂, subst, ◌∙◌, arith, List, [], ◌∷◌, ◌++◌, map, length, filter, Option, Some, None, option_map, slice_get, unwrap_or, is_some, if◌then◌else◌}
+use Rattle.std.specs.Prelude.{option_and_then}
+use Rattle.std.specs.List.{AllByRecursion, find, list_any}
 use Rattle.std.specs.Str.{bytes_eq}
-use Rattle.std.proofs.lemmas.Bool.{cases_Bool, and_parts}
+use Rattle.std.proofs.lemmas.Bool.{cases_Bool}
 use Rattle.std.proofs.lemmas.Bool.Decides.{nat_tests}
 use Rattle.std.proofs.lemmas.List.{length-map}
 use Rattle.std.proofs.lemmas.List.Sums.{sum_by-cons}
-use Rattle.std.proofs.lemmas.Option.{slice_get-map}
+use Rattle.std.proofs.lemmas.Option.{slice_get-map, slice_get_within}
 use Rattle.std.proofs.lemmas.Slice.Eq.{bytes_eq-Decides}
 use Rattle.mvcc_keys.specs.Times.{IsTime, Time, next, zero_time, time_le, time_lt}
 use Rattle.mvcc_keys.proofs.TimeOrder.{le-lt-lt, lt-le, lt-trans, zero-le}
 use Rattle.table_descriptors.specs.Names.{is_name}
-use Rattle.table_descriptors.specs.Fields.{is_id}
-use Rattle.table_descriptors.specs.Descriptors.{IsProperSchema, Schema}
+use Rattle.table_descriptors.specs.Descriptors.{Schema}
 use Rattle.table_descriptors.proofs.Restores.{restored-proper}
 use Rattle.list_laws.specs.Members.{Has}
 use Rattle.list_laws.proofs.Bools.{or-neither}
 use Rattle.list_laws.proofs.Filters.{any-none}
 use Rattle.list_laws.proofs.Members.{all-append, has-AllByRecursion, map-has}
-use Rattle.history_model.specs.Rows.{RowFact}
 use Rattle.history_model.specs.Histories.{Table, accepted, in_force, is_named, place_named, schemas_of}
 use Rattle.history_model.specs.Layers.{LayerRecord}
 use Rattle.schema_catalog.specs.Catalogs.{Schemas, has_database, is_same_name, next_id}
@@ -30,119 +27,39 @@ use Rattle.introduced_spans.proofs.Lists.{find-none}
 use Rattle.layer_objects.specs.Objects.{by_id, table_facts}
 use Rattle.layer_objects.proofs.Writable.{at-id}
 use Rattle.chain_resolver.specs.Best.{Chain, Cover, Uncovered, cover}
-use Rattle.key_rewriter.specs.Ids.{IsIdMap, are_ascending, ascends_from, numbered}
-use Rattle.key_rewriter.proofs.Pairs.{numbered-ids, partner-small}
+use Rattle.key_rewriter.specs.Ids.{IsIdMap, are_ascending}
+use Rattle.key_rewriter.proofs.Pairs.{numbered-ids}
 use Rattle.id_remap.specs.declared.faults.RemapFault.{RemapFault}
 use Rattle.id_remap.specs.declared.faults.RemapFault.TheVariants as remap
 use Rattle.id_remap.specs.declared.targets.Target.{Target}
 use Rattle.id_remap.specs.declared.targets.Target.TheVariants as target
 use Rattle.id_remap.specs.Remapping.{absent_database, first_fault, gets_before, ids_of, is_taken, lacks_ids, missing_reference, new_id, new_ids, new_references, present_database, remap_fault, remapped_schema, refers_outside, least_outside, target_name, taken_name}
 use Rattle.id_remap.proofs.Once.{new_once}
-use Rattle.id_remap.proofs.Order.{in_order}
 use Rattle.id_remap.proofs.Room.{room}
 use Rattle.script_grammar.specs.declared.backups.Src.{Src}
 use Rattle.reply_texts.specs.declared.refusals.Refusal.{Refusal}
 use Rattle.reply_texts.specs.declared.refusals.Refusal.TheVariants.{NothingToRestore}
 use Rattle.command_lang.specs.Typed.{IfGiven, IsName}
-use Rattle.machine_model.specs.Machine.{Machine, Stepped, answered, catalog_of, with_found}
+use Rattle.machine_model.specs.Machine.{Machine, Stepped, catalog_of}
 use Rattle.machine_model.specs.TableRows.{room_refusal}
 use Rattle.machine_model.specs.Backups.{layers_in}
 use Rattle.machine_model.specs.Restores.{chosen_by, chosen_tables, count_to_restore, if_chosen, last_of, layers_at, links_of, nothing_refusal, refusal_of_remap, restore_chain, restore_chosen, restore_database, restored_table, rows_to_restore, put_anew, time_of, with_cover, with_restored}
 use Rattle.machine_model.specs.Orders.{IsInOrder}
 use Rattle.machine_model.specs.Proper.{IsProperTable, NoTwo, ShareName}
 use Rattle.machine_model.specs.ProperMachines.{IsTableWithin}
-use Rattle.machine_model.proofs.Lists.{got-has}
+use Rattle.machine_model.proofs.Lists.{filter_map-has, got-has}
 use Rattle.machine_model.proofs.Past.{next-later}
-use Rattle.machine_model.proofs.ProperLists.{AreDatedUpTo, IsFree, got-map, names-more, two-map}
-use Rattle.machine_model.proofs.ProperFacts.{unmapped}
+use Rattle.machine_model.proofs.ProperLists.{IsFree, got-map, names-more, two-map}
 use Rattle.machine_model.proofs.ProperSteps.{HasProper, Keeps, drawing-keeps, first-none, found-keeps, free-names, has-room, keeps-more, keeps-same, next-time, not-some, tells-if, tells-map, timed-keeps, unless-keeps, Tells}
 use Rattle.machine_model.proofs.ProperCommands.{force-has}
-use Rattle.machine_model.proofs.ProperWalk.{source-proper}
-use Rattle.machine_model.proofs.ProperRestored.{restored-id, table-name, table-proper, table-within}
-
--- ---- ids that ascend
-
-ascend-lower : (a b : ℕ) (xs : List ℕ) → a ≤ b → ascends_from b xs ≡ true → ascends_from a xs ≡ true
-ascend-lower a b [] le e = refl
-ascend-lower a b (x ∷ xs) le e =
-    let p = and_parts (nat_le b x) (ascends_from (x + 1) xs) e in
-    let l = p.0 in
-    let low : nat_le a x ≡ true = grind (arith, nat_tests, l, le) in rw low p.1
-
-ascend-range : (a n : ℕ) → ascends_from a (range_with_len a n) ≡ true
-ascend-range a zero = refl
-ascend-range a (suc n) = let own : nat_le a a ≡ true = grind (arith, nat_tests) in rw own (ascend-range (a + 1) n)
-
-ascend-filter : (p : ℕ → Bool) (k : ℕ) (xs : List ℕ) → ascends_from k xs ≡ true → ascends_from k (filter p xs) ≡ true
-ascend-filter p k [] e = refl
-ascend-filter p k (x ∷ xs) e =
-    let parts = and_parts (nat_le k x) (ascends_from (x + 1) xs) e in
-    let l = parts.0 in
-    let le : k ≤ x + 1 = grind (arith, nat_tests, l) in
-    elim (cases_Bool (p x)) [ inl t ↦ rw (t, l) (ascend-filter p (x + 1) xs parts.1) | inr f ↦ rw f (ascend-filter p k xs (ascend-lower k (x + 1) xs le parts.1)) ]
-
--- what is found by ids has these ids
-ascend-found : (f : ℕ → Option Schema) (k : ℕ) (xs : List ℕ) → ((id : ℕ) (d : Schema) → f id ≡ Some d → d.id ≡ id) → ascends_from k xs ≡ true → ascends_from k (ids_of (filter_map f xs)) ≡ true
-ascend-found f k [] own e = refl
-ascend-found f k (x ∷ xs) own e = by (f x) refl (ascend-found f (x + 1) xs own parts.1)
-  where
-    parts : (nat_le k x ≡ true) × (ascends_from (x + 1) xs ≡ true)
-    parts = and_parts (nat_le k x) (ascends_from (x + 1) xs) e
-
-    by : (o : Option Schema) → f x ≡ o → ascends_from (x + 1) (ids_of (filter_map f xs)) ≡ true → ascends_from k (ids_of (cons_option o (filter_map f xs))) ≡ true
-    by None is rest = let l = parts.0 in ascend-lower k (x + 1) _ (grind (arith, nat_tests, l)) rest
-    by (Some d) is rest =
-        let same = own x d is in
-        let l = parts.0 in
-        let low : nat_le k d.id ≡ true = grind (arith, nat_tests, l, same) in
-        rw low (subst (λ (i : ℕ). ascends_from (i + 1) (ids_of (filter_map f xs)) ≡ true) (sym same) rest)
-
-ids-above : (k : ℕ) (ds : List Schema) (d : Schema) → ascends_from k (ids_of ds) ≡ true → Has d ds → k ≤ d.id
-ids-above k [] d e has = absurd has
-ids-above k (x ∷ xs) d e has =
-    let parts = and_parts (nat_le k x.id) (ascends_from (x.id + 1) (ids_of xs)) e in
-    let l = parts.0 in
-    let low : k ≤ x.id = grind (arith, nat_tests, l) in
-    ⊎_elim (λ (is : d ≡ x). subst (λ (y : Schema). k ≤ y.id) (sym is) low) (λ more. let up = ids-above (x.id + 1) xs d parts.1 more in omega (arith, low, up)) has
-
-ids-apart : (k : ℕ) (ds : List Schema) → ascends_from k (ids_of ds) ≡ true → NoTwo (λ (a b : Schema). a.id ≡ b.id) ds
-ids-apart k [] e i j x y gx gy same = cc gx
-ids-apart k (z ∷ zs) e zero zero x y gx gy same = refl
-ids-apart k (z ∷ zs) e zero (suc j) x y gx gy same =
-    let is : z ≡ x = cc gx in
-    let first = ap (λ (w : Schema). w.id) is in
-    let up = ids-above (z.id + 1) zs y (and_parts (nat_le k z.id) _ e).1 (got-has zs j y gy) in absurd (omega (arith, first, up, same))
-ids-apart k (z ∷ zs) e (suc i) zero x y gx gy same =
-    let is : z ≡ y = cc gy in
-    let first = ap (λ (w : Schema). w.id) is in
-    let up = ids-above (z.id + 1) zs x (and_parts (nat_le k z.id) _ e).1 (got-has zs i x gx) in absurd (omega (arith, first, up, same))
-ids-apart k (z ∷ zs) e (suc i) (suc j) x y gx gy same = ap suc (ids-apart (z.id + 1) zs (and_parts (nat_le k z.id) _ e).1 i j x y gx gy same)
-
-range-at : (a n k y : ℕ) → slice_get (range_with_len a n) k ≡ Some y → y ≡ a + k
-range-at a zero k y e = cc e
-range-at a (suc n) zero y e = let is : a ≡ y = cc e in omega (arith, is)
-range-at a (suc n) (suc k) y e = let rest = range-at (a + 1) n k y e in omega (arith, rest)
-
--- ---- new ids
-
--- chosen tables get the ids from n on, in order
-new-id-at : (n : ℕ) (to : Target) (t : Time) (chosen : List Schema) (k : ℕ) (d : Schema) → are_ascending (ids_of chosen) ≡ true → slice_get chosen k ≡ Some d → (remapped_schema (numbered n (ids_of chosen)) to t d).id ≡ n + k
-new-id-at n to t chosen k d up got =
-    let ids = numbered n (ids_of chosen) in
-    let make = remapped_schema ids to t in
-    let all = in_order n to t (ids_of chosen) ids chosen (map make chosen) up refl refl refl in
-    let here : slice_get (ids_of (map make chosen)) k ≡ Some (make d).id = unmapped (λ (x : Schema). x.id) (map make chosen) k (make d) (unmapped make chosen k d got) in
-    range-at n (length chosen) k (make d).id (ap (λ (xs : List ℕ). slice_get xs k) (sym all) ∙ here)
-
-new-small : (ids : List (ℕ × ℕ)) (olds : List ℕ) → IsIdMap ids → list_all is_id (new_references ids olds) ≡ true
-new-small ids [] is = refl
-new-small ids (old ∷ olds) is = by (lookup (nat_eq old) ids) refl (new-small ids olds is)
-  where
-    by : (o : Option ℕ) → lookup (nat_eq old) ids ≡ o → list_all is_id (new_references ids olds) ≡ true → list_all is_id (cons_option o (new_references ids olds)) ≡ true
-    by None e rest = rest
-    by (Some n) e rest = let l = partner-small old n ids is e in let fits : is_id n ≡ true = grind (arith, nat_tests, l) in rw fits rest
+use Rattle.machine_model.proofs.ProperWalk.{dated, source-proper}
+use Rattle.machine_model.proofs.ProperRestored.{ascend-filter, ascend-found, ascend-lower, ascend-range, ids-apart, new-id-at, new-small, restored-id, table-name, table-proper, table-within}
 
 -- ---- refusals
+
+-- tables that go into a database
+abbrev into : List ℕ → Target
+into name = target.Database name
 
 abbrev told : Option RemapFault → Option Refusal
 told fault = option_and_then refusal_of_remap fault
@@ -162,23 +79,23 @@ not-found f (Some x) e = cc e
 
 module _ (s : Schemas) (chosen : List Schema) (name : List ℕ) (t : Time) where
   abbrev to : Target
-  to = target.Database name
+  to = into name
 
   remap-tells : told (remap_fault s chosen to false t) ≡ None → remap_fault s chosen to false t ≡ None
   unfolding remap_fault
   remap-tells e = told-first (missing_reference (ids_of chosen) false chosen ∷ absent_database s to chosen ∷ present_database s to ∷ taken_name s to t chosen ∷ lacks_ids s chosen ∷ []) (
-        tells-map told (λ (d : Schema). remap.MissingReference d.id (least_outside (ids_of chosen) d.references)) (λ x f. cc f) (find (refers_outside (ids_of chosen)) chosen),
+    tells-map told (λ (d : Schema). remap.MissingReference d.id (least_outside (ids_of chosen) d.references)) (λ x f. cc f) (find (refers_outside (ids_of chosen)) chosen),
+    (
+      (λ f. refl),
+      (
+        tells-if told (remap.DatabaseExists name) (λ f. cc f) (has_database s name),
         (
-          (λ f. refl),
-          (
-            tells-if told (remap.DatabaseExists name) (λ f. cc f) (has_database s name),
-            (
-              tells-map told (λ (d : Schema). remap.NameTaken (target_name to d)) (λ x f. cc f) (find (is_taken s to t chosen) chosen),
-              (tells-if told remap.TooManyTables (λ f. cc f) (nat_lt s.limit (length s.tables + length chosen)), tt),
-            ),
-          ),
+          tells-map told (λ (d : Schema). remap.NameTaken (target_name to d)) (λ x f. cc f) (find (is_taken s to t chosen) chosen),
+          (tells-if told remap.TooManyTables (λ f. cc f) (nat_lt s.limit (length s.tables + length chosen)), tt),
         ),
-      ) e
+      ),
+    ),
+  ) e
 
   none-taken : remap_fault s chosen to false t ≡ None → AllByRecursion (λ d. is_taken s to t chosen d ≡ false) chosen
   unfolding remap_fault
@@ -192,18 +109,9 @@ module _ (s : Schemas) (chosen : List Schema) (name : List ℕ) (t : Time) where
 
 -- ---- chosen tables
 
-filter_map-has : {X Y : Type 0} (f : X → Option Y) (y : Y) (xs : List X) → Has y (filter_map f xs) → (x : X) × Has x xs × (f x ≡ Some y)
-filter_map-has f y [] has = absurd has
-filter_map-has {X} {Y} f y (x ∷ xs) has = by (f x) refl has (filter_map-has f y xs)
-  where
-    by : (o : Option Y) → f x ≡ o → Has y (cons_option o (filter_map f xs)) → (Has y (filter_map f xs) → (z : X) × Has z xs × (f z ≡ Some y)) → (z : X) × Has z (x ∷ xs) × (f z ≡ Some y)
-    by None e h more = let w = more h in (w.0, inr w.1, w.2)
-    by (Some z) e (inl same) more = (x, inl refl, e ∙ ap (λ w. Some w) (sym same))
-    by (Some z) e (inr h) more = let w = more h in (w.0, inr w.1, w.2)
-
 -- one that is chosen is among the descriptors
-chosen-among : (database : List ℕ) (t : Time) (ds : List Schema) (d : Schema) → chosen_by database t ds ≡ Some d → Has d ds
-chosen-among database t ds d e = by (in_force ds t) refl e
+pub chosen-has : (database : List ℕ) (t : Time) (ds : List Schema) (d : Schema) → chosen_by database t ds ≡ Some d → Has d ds
+chosen-has database t ds d e = by (in_force ds t) refl e
   where
     tested : (x : Schema) (b : Bool) → (if b then Some x else None) ≡ Some d → x ≡ d
     tested x true f = cc f
@@ -235,7 +143,7 @@ described-by tables id d has = by (nat_lt id 100) refl has
 module _ (tables : List Table) (proper : (i : ℕ) (table : Table) → slice_get tables i ≡ Some table → IsProperTable (100 + i) table) (database : List ℕ) (t : Time) (r : LayerRecord) where
   chosen-of : (id : ℕ) (d : Schema) → chosen_by database t (descriptors_of (schemas_of tables) id) ≡ Some d → IsOf tables id d × (d.id ≡ id)
   chosen-of id d e =
-      let of = described-by tables id d (chosen-among database t (descriptors_of (schemas_of tables) id) d e) in
+      let of = described-by tables id d (chosen-has database t (descriptors_of (schemas_of tables) id) d e) in
       let own = ((proper of.place of.table of.got).schemas d of.has).1 in
       (of, own ∙ sym of.is)
 
@@ -290,24 +198,18 @@ names-differ s to t chosen up none i j a b ga gb same = by (cases_Bool (nat_lt a
 -- ---- the command
 
 module _ (n : ℕ) (m : Machine) (small : n < 2 ^ 32 - 2) (p : HasProper n m) (o : IsInOrder m) (few : m.limits.tables ≤ 4096) (events : m.limits.events ≤ 1000000) where
-  dated : AreDatedUpTo m.clock m.history.tables
-  dated i table got d has = (o.tables i table got).dated d has
-
   module _ (name : List ℕ) (named : IsName name) (t at published : Time) (chosen : List Schema) (up : are_ascending (ids_of chosen) ≡ true) (of : (d : Schema) → Has d chosen → IsOf m.history.tables d.id d)
-    (after : time_lt m.clock at ≡ true) (time : IsTime at) (later : time_lt at published ≡ true) (public_time : IsTime published)
-    (fine : remap_fault (catalog_of m) chosen (target.Database name) false at ≡ None) where
-    abbrev goal : Target
-    goal = target.Database name
-
+      (after : time_lt m.clock at ≡ true) (time : IsTime at) (later : time_lt at published ≡ true) (public_time : IsTime published)
+      (fine : remap_fault (catalog_of m) chosen (into name) false at ≡ None) where
     abbrev ids : List (ℕ × ℕ)
     ids = new_ids (catalog_of m) chosen
 
     abbrev make : Schema → Table
-    make = restored_table m.history.tables ids goal t at published
+    make = restored_table m.history.tables ids (into name) t at published
 
     space : length m.history.tables + length chosen ≤ 4096
     space =
-        let fits = room (catalog_of m) chosen goal false at fine in
+        let fits = room (catalog_of m) chosen (into name) false at fine in
         let l = length-map m.history.tables (λ (x : Table). x.descriptors) in omega (arith, fits, l, few)
 
     id-map : IsIdMap ids
@@ -326,47 +228,42 @@ module _ (n : ℕ) (m : Machine) (small : n < 2 ^ 32 - 2) (p : HasProper n m) (o
         let own = old.schemas d here.has in
         let facts : by_id [] table_facts m.history.tables d.id ≡ here.table.facts = at-id [] table_facts m.history.tables d.id here.place here.table here.is here.got in
         let l = length-map m.history.tables (λ (x : Table). x.descriptors) in
-        let num = new-id-at (next_id (catalog_of m)) goal at chosen k d up one.1 in
-        let id : (remapped_schema ids goal at d).id ≡ 100 + (length m.history.tables + k) = omega (arith, num, l) in
+        let num = new-id-at (next_id (catalog_of m)) (into name) at chosen k d up one.1 in
+        let id : (remapped_schema ids (into name) at d).id ≡ 100 + (length m.history.tables + k) = omega (arith, num, l) in
         let new = restored-id d (new_id ids d.id) name (new_references ids d.references) at in
-        let bound = place-below chosen k d one.1 in
+        let bound = slice_get_within chosen k d one.1 in
         let fits = space in
         let proper = restored-proper d (new_id ids d.id) name (new_references ids d.references) at own.0 (omega (arith, new, id, bound, fits)) named (new-small ids d.references id-map) (new_once ids id-map d.references own.0.once) time in
-        let table = table-proper m.history.tables ids goal t at published d later proper
-            (λ f has. old.facts d here.has f (subst (Has f) facts has)) (λ f has. old.sized d here.has f (subst (Has f) facts has))
-            (le-lt-lt zero_time m.clock at (zero-le m.clock) after) time public_time in
+        let table = table-proper m.history.tables ids (into name) t at published d later proper
+        (λ f has. old.facts d here.has f (subst (Has f) facts has)) (λ f has. old.sized d here.has f (subst (Has f) facts has))
+        (le-lt-lt zero_time m.clock at (zero-le m.clock) after) time public_time in
         subst (λ (y : Table). IsProperTable (100 + (length m.history.tables + k)) y × IsTableWithin (n + 1 + 1) published y) (sym one.2)
-        (subst (λ (i : ℕ). IsProperTable i (make d)) id table, table-within m.history.tables ids goal t at published d later n)
-      where
-        place-below : {X : Type 0} (xs : List X) (i : ℕ) (x : X) → slice_get xs i ≡ Some x → i < length xs
-        place-below [] i x e = cc e
-        place-below (z ∷ zs) zero x e = omega arith
-        place-below (z ∷ zs) (suc i) x e = let l = place-below zs i x e in omega (arith, l)
+        (subst (λ (i : ℕ). IsProperTable i (make d)) id table, table-within m.history.tables ids (into name) t at published d later n)
 
     new-names : (x : Time) → NoTwo (ShareName x) (m.history.tables ++ map make chosen)
-    new-names = names-more m.history.tables m.clock at dated after p.history.names (map make chosen)
+    new-names = names-more m.history.tables m.clock at (dated n m small p o few events) after p.history.names (map make chosen)
         (λ x. two-map make (ShareName x) chosen (λ i j a b ga gb share.
-        let q = table-name m.history.tables ids goal t at published a later share.0 x share.1 in
-        let r = table-name m.history.tables ids goal t at published b later share.0 x share.2 in
-        names-differ (catalog_of m) goal at chosen up none i j a b ga gb (q.1 ∙ sym r.1)))
+        let q = table-name m.history.tables ids (into name) t at published a later share.0 x share.1 in
+        let r = table-name m.history.tables ids (into name) t at published b later share.0 x share.2 in
+        names-differ (catalog_of m) (into name) at chosen up none i j a b ga gb (q.1 ∙ sym r.1)))
         (λ table has. let one = map-has make table chosen has in
         subst (λ (y : Table). (word : List ℕ × List ℕ) (x : Time) → is_named word x y.descriptors ≡ true → (time_le at x ≡ true) × IsFree m.history.tables at word) (sym one.2)
-        (λ word x is. let q = table-name m.history.tables ids goal t at published one.0 later word x is in (q.0, subst (IsFree m.history.tables at) q.1 (free one.0 one.1))))
+        (λ word x is. let q = table-name m.history.tables ids (into name) t at published one.0 later word x is in (q.0, subst (IsFree m.history.tables at) q.1 (free one.0 one.1))))
       where
-        none : AllByRecursion (λ d. is_taken (catalog_of m) goal at chosen d ≡ false) chosen
+        none : AllByRecursion (λ d. is_taken (catalog_of m) (into name) at chosen d ≡ false) chosen
         none = none-taken (catalog_of m) chosen name at fine
 
-        free : (d : Schema) → Has d chosen → IsFree m.history.tables at (target_name goal d)
+        free : (d : Schema) → Has d chosen → IsFree m.history.tables at (target_name (into name) d)
         free d has =
-            let taken = has-AllByRecursion (λ d. is_taken (catalog_of m) goal at chosen d ≡ false) d chosen none has in
-            let spot = place_named (schemas_of m.history.tables) (target_name goal d) at in
-            free-names m.history.tables at (target_name goal d) (not-some spot (or-neither (is_some spot) (list_any (gets_before goal d) chosen) taken).0)
+            let taken = has-AllByRecursion (λ d. is_taken (catalog_of m) (into name) at chosen d ≡ false) d chosen none has in
+            let spot = place_named (schemas_of m.history.tables) (target_name (into name) d) at in
+            free-names m.history.tables at (target_name (into name) d) (not-some spot (or-neither (is_some spot) (list_any (gets_before (into name) d) chosen) taken).0)
 
     made-proper : room_refusal m (count_to_restore m.history.tables t chosen) ≡ None → HasProper (n + 1) (with_restored m name (map make chosen) published)
     made-proper holds =
         let second = lt-trans m.clock at published after later in
         let k = length-map chosen make in
-        let count = count-made m.history.tables ids goal t at published chosen in
+        let count = count-made m.history.tables ids (into name) t at published chosen in
         let fits = has-room m (count_to_restore m.history.tables t chosen) holds events in
         let whole = space in
         keeps-more n m p published (m.history.databases ++ name ∷ []) (map make chosen) (lt-le m.clock published second) public_time (all-append (λ x. is_name x ≡ true) m.history.databases (name ∷ []) p.history.databases (named, tt))
@@ -375,7 +272,7 @@ module _ (n : ℕ) (m : Machine) (small : n < 2 ^ 32 - 2) (p : HasProper n m) (o
   chosen-proper : (name : List ℕ) → IsName name → (t at published : Time) (rs : List LayerRecord) (chosen : List Schema) → are_ascending (ids_of chosen) ≡ true → ((d : Schema) → Has d chosen → IsOf m.history.tables d.id d)
       → time_lt m.clock at ≡ true → IsTime at → time_lt at published ≡ true → IsTime published → Keeps n m p (restore_chosen m name t at published rs chosen)
   chosen-proper name named t at published rs chosen up of after time later public_time = unless-keeps n m p _ _ (λ e.
-      let fault = remap_fault (catalog_of m) chosen (target.Database name) false at in
+      let fault = remap_fault (catalog_of m) chosen (into name) false at in
       let last = room_refusal m (count_to_restore m.history.tables t chosen) ∷ [] in
       let a = first-none (told fault) last (first-none (nothing_refusal chosen) (told fault ∷ last) e).1 in
       let b = first-none (room_refusal m (count_to_restore m.history.tables t chosen)) [] a.1 in
