@@ -2,7 +2,7 @@
 use Rattle.std.proofs.Common.{◌≡◌, ◌<◌, ⊎_elim, ℕ, Bool, true, false, List, Some, None, Ok, Contains, length, length-append, arith, refl, sym, ap, subst, ◌∙◌}
 use Rattle.std.specs.Prelude.{Option, Result}
 use Rattle.outside_world.specs.Disk.{DiskHasCause, View, IsImage, IsKnown}
-use Rattle.outside_world.specs.Moments.{ChangesOnly, LeavesOnly}
+use Rattle.outside_world.specs.Moments.{ChangesOnly}
 use Rattle.outside_world.specs.Objects.{Objects, at}
 use Rattle.outside_world.proofs.Runs.{only_less, only_none, only_then, then_call}
 use Rattle.reply_texts.specs.declared.replies.Reply.{Reply}
@@ -21,7 +21,7 @@ use Rattle.layer_objects.specs.Objects.{objects_of}
 use Rattle.layer_objects.specs.Storable.{older_manifest}
 use Rattle.layer_objects.proofs.Names.{objects-name}
 use Rattle.machine_model.specs.Machine.{World, Machine, Stepped}
-use Rattle.machine_model.specs.Disks.{IsDone, IsDoneIn, IsIdle, IsReady, IsThere, StandsUntil, made_layers, setting_of}
+use Rattle.machine_model.specs.Disks.{IsDoneIn, IsReady, IsThere, made_layers, setting_of}
 use Rattle.machine_model.specs.Past.{IsLater, IsLaterIn}
 use Rattle.machine_model.proofs.DiskLaws.{ready_leaves}
 use Rattle.machine_model.specs.Step.{step}

@@ -1,6 +1,6 @@
 -- The tests of BACKUP, and the job of a layer.
-use Rattle.std.proofs.Common.{◌≡◌, inl, inr, ⊎_elim, ℕ, ◌+◌, ◌-◌, ◌<◌, ◌≤◌, ◌^◌, nat_lt, Bool, true, false, true≢false, List, [], ◌∷◌, map, filter, length, slice_get, option_map, unwrap_or, Option, Some, None, refl, sym, ap, subst, ◌∙◌, arith, Result, Err, IsErrAnd}
-use Rattle.std.specs.Prelude.{IfErr, if◌then◌else◌, option_and_then, option_to_list}
+use Rattle.std.proofs.Common.{◌≡◌, inr, ⊎_elim, ℕ, ◌+◌, ◌-◌, ◌<◌, ◌≤◌, ◌^◌, nat_lt, Bool, true, false, true≢false, List, [], ◌∷◌, map, length, slice_get, option_map, unwrap_or, Option, Some, None, refl, sym, ap, subst, ◌∙◌, arith, Result, Err, IsErrAnd}
+use Rattle.std.specs.Prelude.{IfErr, if◌then◌else◌, option_and_then}
 use Rattle.std.specs.List.{AllByRecursion}
 use Rattle.std.proofs.lemmas.List.{length-map}
 use Rattle.std.proofs.lemmas.Option.{slice_get-map}
@@ -10,10 +10,8 @@ use Rattle.table_descriptors.specs.declared.scopes.Scope.{Scope}
 use Rattle.table_descriptors.specs.Descriptors.{IsProperSchema, Schema}
 use Rattle.list_laws.specs.Members.{Has}
 use Rattle.mvcc_keys.proofs.TimeOrder.{le-lt-lt, le-refl, le-trans, lt-le}
-use Rattle.range_tombstones.specs.Intervals.{is_between}
-use Rattle.range_tombstones.specs.declared.upto.Upto.TheVariants.{At}
 use Rattle.history_model.specs.Rows.{RowFact}
-use Rattle.history_model.specs.Histories.{Table, in_force, schemas_of}
+use Rattle.history_model.specs.Histories.{Table, schemas_of}
 use Rattle.history_model.specs.Layers.{LayerRecord}
 use Rattle.schema_catalog.specs.Catalogs.{Schemas}
 use Rattle.row_codec.specs.declared.rows.Kind.{Kind}
@@ -22,7 +20,7 @@ use Rattle.introduced_spans.specs.declared.plans.LayerPlan.{LayerPlan}
 use Rattle.introduced_spans.specs.declared.plans.PlanFault.{PlanFault}
 use Rattle.introduced_spans.specs.declared.plans.PlanFault.TheVariants as plan
 use Rattle.introduced_spans.specs.declared.plans.TablePlan.{TablePlan}
-use Rattle.introduced_spans.specs.Spans.{FaultIs, descriptors_of, floor_of, layer_descriptors, layer_plan, plan_fault, span_of}
+use Rattle.introduced_spans.specs.Spans.{FaultIs, descriptors_of, floor_of, layer_plan, plan_fault, span_of}
 use Rattle.layer_manifest.specs.declared.manifest.TablePart.{TablePart}
 use Rattle.layer_model.specs.declared.names.LayerName.{LayerName}
 use Rattle.layer_model.specs.Names.{IsLayerName}
@@ -34,10 +32,11 @@ use Rattle.backup_job.specs.Records.{job_of}
 use Rattle.backup_job.proofs.Going.{jobs-write}
 use Rattle.introduced_spans.specs.PlanLaws.{IsKept}
 use Rattle.introduced_spans.proofs.Standing.{plan-stands}
-use Rattle.list_laws.proofs.Members.{all-weaker, filter-has, has-append_cases}
+use Rattle.list_laws.proofs.Members.{all-weaker}
 use Rattle.table_rows.specs.RowTables.{bytes_of}
 use Rattle.layer_objects.specs.Objects.{rows_of}
 use Rattle.layer_objects.specs.Storable.{AreListable, AreStorable, IsRecord}
+use Rattle.layer_objects.proofs.Listing.{listed-has}
 use Rattle.layer_objects.proofs.Writable.{layers-written}
 use Rattle.layer_book.specs.Books.{name_in}
 use Rattle.layer_book.specs.Subdirectories.{last_full_of}
@@ -54,7 +53,6 @@ use Rattle.cluster_core.specs.ClusterView.{ClusterState, record_of}
 use Rattle.cluster_core.specs.Halting.{halt_of}
 use Rattle.cluster_core.specs.Standing.{Keeps, RefusedBy, machine_of}
 use Rattle.cluster_core.specs.Backing.{IsBackupJob, IsNext, layer_refusal}
-use Rattle.cluster_core.proofs.Kept.{in_force-has}
 use Rattle.cluster_core.proofs.Tables.{by_id-at}
 
 -- ---- tests
@@ -154,21 +152,11 @@ layer-form m x last next passed name floor =
 
 -- ---- descriptors
 
-unfoldable AreProper : TablePart → Type 0
+unfoldable pub AreProper : TablePart → Type 0
 AreProper t = AllByRecursion IsProperSchema t.descriptors
 
-unfoldable AreFew : TablePart → Type 0
+unfoldable pub AreFew : TablePart → Type 0
 AreFew t = length t.descriptors < 2 ^ 64
-
-option-has : {X : Type 0} (o : Option X) (x : X) → Has x (option_to_list o) → o ≡ Some x
-option-has None x none = absurd none
-option-has (Some y) x (inl is) = ap Some (sym is)
-option-has (Some y) x (inr none) = absurd none
-
--- what a layer lists of a table are its descriptors
-listed-has : (history : Bool) (floor end : Time) (ds : List Schema) (d : Schema) → Has d (layer_descriptors history floor end ds) → Has d ds
-listed-has true floor end ds d has = ⊎_elim (λ (first : Has d (option_to_list (in_force ds floor))). in_force-has ds floor d (option-has (in_force ds floor) d first)) (λ (more : Has d (filter (λ (e : Schema). is_between floor (At end) e.modified) ds)). filter-has _ d ds more) (has-append_cases d (option_to_list (in_force ds floor)) _ has)
-listed-has false floor end ds d has = in_force-has ds end d (option-has (in_force ds end) d has)
 
 -- the descriptors of a table have the same key columns
 keyed-at : (c : ClusterState) (tables : List Table) → Keeps c tables → (id : ℕ) (d e : Schema) → Has d (descriptors_of (schemas_of tables) id) → Has e (descriptors_of (schemas_of tables) id) → d.key_columns ≡ e.key_columns

@@ -29,7 +29,7 @@ use Rattle.cluster_core.proofs.Tables.{by_id-at}
 
 -- ---- lists
 
-filter_map-has : {X Y : Type 0} (f : X → Option Y) (y : Y) (xs : List X) → Has y (filter_map f xs) → (x : X) × Has x xs × (f x ≡ Some y)
+pub filter_map-has : {X Y : Type 0} (f : X → Option Y) (y : Y) (xs : List X) → Has y (filter_map f xs) → (x : X) × Has x xs × (f x ≡ Some y)
 filter_map-has f y [] has = absurd has
 filter_map-has {X} {Y} f y (x ∷ xs) has = by (f x) refl has (filter_map-has f y xs)
   where

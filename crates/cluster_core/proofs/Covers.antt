@@ -1,46 +1,49 @@
--- Chains of own layers: what is done with one, and that it is one layer.
-use Rattle.std.proofs.Common.{◌≡◌, inl, inr, ℕ, zero, suc, Bool, true, false, cond, ◌&&◌, ◌||◌, refl, sym, ap, ap₂, subst, ◌∙◌, List, [], ◌∷◌, map, filter, Option, Some, None, slice_get, filter_map, option_map, true≢false}
-use Rattle.std.specs.List.{cons_option, find}
+-- Chains of own layers: what is done with one, and that its layers lie in one subdirectory and lead to the time.
+use Rattle.std.proofs.Common.{◌≡◌, inl, inr, ℕ, suc, ◌-◌, Bool, true, false, cond, ◌&&◌, ◌||◌, refl, sym, ap, ap₂, subst, ◌∙◌, arith, List, [], ◌∷◌, length, map, filter, Option, Some, None, slice_get, filter_map, option_map, true≢false}
+use Rattle.std.specs.List.{AllByRecursion, cons_option, find}
+use Rattle.std.specs.Str.{bytes_eq}
+use Rattle.std.proofs.lemmas.List.{length-map}
 use Rattle.std.proofs.lemmas.Option.{slice_get-map}
-use Rattle.mvcc_keys.specs.Times.{Time, time_le, time_lt, zero_time, time_eq}
+use Rattle.std.proofs.lemmas.Slice.Eq.{bytes_eq-Decides}
+use Rattle.mvcc_keys.specs.Times.{Time, time_eq, time_le, time_lt, zero_time}
 use Rattle.history_model.specs.Histories.{Table}
 use Rattle.history_model.specs.Layers as records
 use Rattle.list_laws.specs.Members.{Has}
-use Rattle.list_laws.proofs.Members.{filter-has}
+use Rattle.list_laws.proofs.Members.{AllByRecursion-has, filter-has, filter-passes, has-AllByRecursion}
+use Rattle.list_laws.proofs.Options.{map-some, some-is}
 use Rattle.mvcc_keys.proofs.TimeOrder.{eq-is}
 use Rattle.fact_model.proofs.Orders.{ordered-has}
 use Rattle.layer_manifest.specs.declared.manifest.Manifest.{Manifest}
+use Rattle.layer_manifest.specs.Manifests.{IsProperManifest}
 use Rattle.layer_model.specs.declared.names.LayerName.{LayerName}
 use Rattle.layer_objects.specs.Objects.{name_of_record}
-use Rattle.cluster_core.specs.FullLayers.{IsFull}
+use Rattle.stored_chunks.specs.Parts.{AreProperLayers}
+use Rattle.layer_chains.specs.Chains.{AreChainFrom, IsChainTo, Serves}
 use Rattle.layer_book.specs.Books.{name_in}
 use Rattle.layer_book.specs.Subdirectories.{is_in, layers_of, place_cmp, subdirectories_of}
 use Rattle.layer_book.proofs.Carried.{layers_map, subdirectories_map}
 use Rattle.chain_resolver.specs.declared.layer.Layer.{Layer}
 use Rattle.chain_resolver.specs.Ways.{AreOrdered, adjoins, chain_to, serves}
 use Rattle.chain_resolver.specs.Cover.{reason}
-use Rattle.chain_resolver.specs.Best.{Chain as Places, best_way, candidates, cover, cover_of, is_best, is_passing, is_way, reached}
+use Rattle.chain_resolver.specs.Best.{Chain as Places, best_way, candidates, cover, cover_of, goes_on, is_best, is_passing, is_way, reached}
 use Rattle.script_grammar.specs.declared.backups.Src.{Src}
 use Rattle.reply_texts.specs.declared.refusals.Refusal.{Refusal}
 use Rattle.reply_texts.specs.declared.refusals.Refusal.TheVariants.{NoSuchBackup}
 use Rattle.machine_model.specs.Machine.{Backup, Stepped, refused, with_found}
 use Rattle.machine_model.specs.Backups.{source_among}
-use Rattle.machine_model.specs.Restores.{link_of, links_of, time_of, with_cover}
+use Rattle.machine_model.specs.Restores.{last_of, layers_at, link_of, links_of, time_of, with_cover}
 use Rattle.cluster_core.specs.declared.chains.Chain.{Chain}
 use Rattle.cluster_core.specs.declared.halts.Halt.TheVariants.{Refused}
 use Rattle.cluster_core.specs.ClusterView.{ClusterState, record_of}
-use Rattle.cluster_core.specs.Standing.{HasBackups, machine_of}
+use Rattle.cluster_core.specs.Standing.{HasBackups, IsOwnBackup, machine_of}
 use Rattle.cluster_core.specs.Backing.{AreLayersFrom}
-use Rattle.cluster_core.specs.Chains.{IsChain, IsChainFault, IsOneLayer, with_chain}
+use Rattle.cluster_core.specs.Chains.{IsChain, IsChainFault, IsOwnChain, IsOwnLayer, with_chain}
+use Rattle.cluster_core.proofs.Chosen.{filter_map-has}
+use Rattle.cluster_core.proofs.Storing.{has-place}
 use Rattle.machine_model.proofs.Lists.{got-has}
 use Rattle.list_laws.proofs.Bools.{and-parts}
 
 -- ---- lists
-
-pub has-place : {X : Type 0} (x : X) (xs : List X) → Has x xs → (i : ℕ) × (slice_get xs i ≡ Some x)
-has-place x [] h = absurd h
-has-place x (y ∷ ys) (inl e) = (zero, ap (λ z. Some z) (sym e))
-has-place x (y ∷ ys) (inr h) = let p = has-place x ys h in (suc p.0, p.1)
 
 cons-map : {X Y : Type 0} (f : X → Y) (o : Option X) (xs : List X) → cons_option (option_map f o) (map f xs) ≡ map f (cons_option o xs)
 cons-map f None xs = refl
@@ -51,26 +54,45 @@ at-map : {X Y : Type 0} (f : X → Y) (xs : List X) (places : List ℕ) → filt
 at-map f xs [] = refl
 at-map f xs (p ∷ ps) = ap₂ cons_option (slice_get-map f xs p) (at-map f xs ps) ∙ cons-map f (slice_get xs p) (filter_map (slice_get xs) ps)
 
+-- ---- the last of a list
+
+-- what isn't empty has a last one
+some-last : {X : Type 0} (x : X) (xs : List X) → (y : X) × (last_of (x ∷ xs) ≡ Some y)
+some-last x [] = (x, refl)
+some-last x (y ∷ ys) =
+    let more = some-last y ys in
+    let place : length (x ∷ y ∷ ys) - 1 ≡ suc (length (y ∷ ys) - 1) = omega arith in
+    (more.0, ap (slice_get (x ∷ y ∷ ys)) place ∙ more.1)
+
+pub last-map : {X Y : Type 0} (f : X → Y) (xs : List X) (x : X) → last_of xs ≡ Some x → last_of (map f xs) ≡ Some (f x)
+last-map f xs x last = ap (λ (n : ℕ). slice_get (map f xs) (n - 1)) (length-map xs f) ∙ (slice_get-map f xs (length xs - 1) ∙ ap (option_map f) last)
+
 -- ---- own layers
 
 module _ (c : ClusterState) (tables : List Table) (b : HasBackups c tables) where
-  pub booked-full : (p : LayerName × Manifest) → Has p c.book.layers → IsFull (record_of p)
-  booked-full p h = let at = has-place (Backup (record_of p)) c.jobs (b.layers p h).among in (b.backups at.0 (record_of p) at.1).full
+  -- the backup of a layer in the book
+  pub booked : (p : LayerName × Manifest) → Has p c.book.layers → (place : ℕ) × IsOwnBackup c tables place (record_of p)
+  booked p h = let at = has-place (Backup (record_of p)) c.jobs (b.layers p h).among in (at.0, b.backups at.0 (record_of p) at.1)
 
-  pub from-has : (source : Src) (collection : List ℕ) (layers : List (LayerName × Manifest)) → AreLayersFrom c.book source collection layers → (p : LayerName × Manifest) → Has p layers → Has p c.book.layers
+  -- a layer of a source is in the book, in the source's subdirectory
+  pub from-own : (source : Src) (collection : List ℕ) (layers : List (LayerName × Manifest)) (from : AreLayersFrom c.book source collection layers) → (p : LayerName × Manifest) → Has p layers → IsOwnLayer c.book collection from.subdirectory.1 p
   unfolding layers_of
-  from-has source collection layers from p h =
-      filter-has (λ x. is_in collection from.subdirectory.0 from.subdirectory.1 (name_in x)) p c.book.layers
-      (ordered-has (place_cmp name_in) p (filter (λ x. is_in collection from.subdirectory.0 from.subdirectory.1 (name_in x)) c.book.layers) (subst (Has p) from.are h))
+  from-own source collection layers from p h =
+      let test : LayerName × Manifest → Bool = λ x. is_in collection from.subdirectory.0 from.subdirectory.1 (name_in x) in
+      let among = ordered-has (place_cmp name_in) p (filter test c.book.layers) (subst (Has p) from.are h) in
+      let passed = and-parts (bytes_eq p.0.collection collection) (bytes_eq p.0.cluster from.subdirectory.0 && time_eq p.0.full from.subdirectory.1) (filter-passes test p c.book.layers among) in
+      record {
+        own = filter-has test p c.book.layers among;
+        collection_is = (bytes_eq-Decides p.0.collection collection).0 passed.0;
+        full_is = eq-is p.0.full from.subdirectory.1 (and-parts (bytes_eq p.0.cluster from.subdirectory.0) (time_eq p.0.full from.subdirectory.1) passed.1).1;
+      }
 
-  all-ordered : (layers : List (LayerName × Manifest)) → ((p : LayerName × Manifest) → Has p layers → IsFull (record_of p)) → AreOrdered (links_of (map record_of layers))
+  all-ordered : (layers : List (LayerName × Manifest)) → ((p : LayerName × Manifest) → Has p layers → Has p c.book.layers) → AreOrdered (links_of (map record_of layers))
   all-ordered [] all = refl
-  all-ordered (p ∷ ps) all =
-      let f = all p (inl refl) in
-      ap₂ (λ (x y : Bool). x && y) (subst (λ (s : Time). time_lt s p.0.end ≡ true) (sym f.start) f.ends) (all-ordered ps (λ q h. all q (inr h)))
+  all-ordered (p ∷ ps) all = ap₂ (λ (x y : Bool). x && y) (booked p (all p (inl refl))).1.is.ends (all-ordered ps (λ q h. all q (inr h)))
 
   pub from-ordered : (source : Src) (collection : List ℕ) (layers : List (LayerName × Manifest)) → AreLayersFrom c.book source collection layers → AreOrdered (links_of (map record_of layers))
-  from-ordered source collection layers from = all-ordered layers (λ p h. booked-full p (from-has source collection layers from p h))
+  from-ordered source collection layers from = all-ordered layers (λ p h. (from-own source collection layers from p h).own)
 
 -- ---- what is done with a chain
 
@@ -104,21 +126,7 @@ module _ (c : ClusterState) (tables : List Table) (source : Src) (collection : L
       from-over none.layers none.from
       ∙ (ap (λ o. with_cover (machine_of c tables) rs o (change (time_of rs at))) none.uncovered.2 ∙ ap (refused (machine_of c tables)) (sym none.uncovered.1))
 
--- ---- a chain of full layers without history
-
--- what a chain sees of such a layer
-record IsPlain (l : Layer) : Type 0 where
-  pub start : l.start ≡ zero_time
-  pub ends : time_lt zero_time l.end ≡ true
-  pub history : l.history ≡ false
-
--- one place, of a layer that ends at the time
-record IsOne (ls : List Layer) (t : Time) (places : List ℕ) : Type 0 where
-  pub place : ℕ
-  pub layer : Layer
-  pub alone : places ≡ place ∷ []
-  pub got : slice_get ls place ≡ Some layer
-  pub ends : layer.end ≡ t
+-- ---- the records of a chain
 
 pub find-passes : {X : Type 0} (p : X → Bool) (xs : List X) (x : X) → find p xs ≡ Some x → p x ≡ true
 find-passes p [] x e = cc e
@@ -132,66 +140,90 @@ passing : (test : Layer → Bool) (o : Option Layer) → is_passing test o ≡ t
 passing test None e = absurd (true≢false (sym e))
 passing test (Some l) e = (l, refl, e)
 
-no-history : (l : Layer) (t : Time) → IsPlain l → serves l t ≡ true → l.end ≡ t
-no-history l t plain e = by (time_eq l.end t) refl (subst (λ (h : Bool). (time_eq l.end t || (h && time_lt l.start t && time_le l.floor t && time_lt t l.end)) ≡ true) plain.history e)
-  where
-    by : (b : Bool) → time_eq l.end t ≡ b → (b || false) ≡ true → l.end ≡ t
-    by true is e = eq-is l.end t is
-    by false is e = absurd (true≢false (sym e))
+-- the last record of a chain serves the time
+pub last-serves : (s t : Time) (rs : List records.LayerRecord) (r : records.LayerRecord) → AreChainFrom s t rs → last_of rs ≡ Some r → Serves t r
+last-serves s t [] r chain last = absurd chain
+last-serves s t (q ∷ []) r chain last = subst (Serves t) (some-is q r last) chain.1
+last-serves s t (q ∷ k ∷ rs) r chain last =
+    let place : length (q ∷ k ∷ rs) - 1 ≡ suc (length (k ∷ rs) - 1) = omega arith in
+    last-serves q.end t (k ∷ rs) r chain.1 (sym (ap (slice_get (q ∷ k ∷ rs)) place) ∙ last)
 
-none-follows : (k l : Layer) → IsPlain k → IsPlain l → time_eq k.end l.start ≡ true → ⊥
-none-follows k l plain next e =
-    let zero_end : k.end ≡ zero_time = eq-is k.end l.start e ∙ next.start in
-    let never : time_lt zero_time zero_time ≡ true = subst (λ (t : Time). time_lt zero_time t ≡ true) zero_end plain.ends in
-    true≢false (sym never)
+-- a chain has a record
+pub chain-some : (s t : Time) (ps : List (LayerName × Manifest)) → AreChainFrom s t (map record_of ps) → (p : LayerName × Manifest) × (last_of ps ≡ Some p)
+chain-some s t [] chain = absurd chain
+chain-some s t (p ∷ ps) chain = some-last p ps
 
-module _ (ls : List Layer) (plain : (i : ℕ) (l : Layer) → slice_get ls i ≡ Some l → IsPlain l) (t : Time) where
-  way-one : (places : List ℕ) → is_way (chain_to t) ls places ≡ true → IsOne ls t places
-  way-one [] e = absurd (true≢false (sym e))
-  way-one (p ∷ []) e =
-      let l = passing _ (slice_get ls p) e in
-      let b = and-parts (adjoins zero_time None l.0) _ l.2 in
-      record { place = p; layer = l.0; alone = refl; got = l.1; ends = no-history l.0 t (plain p l.0 l.1) b.1 }
-  way-one (p ∷ q ∷ ps) e =
-      let l = passing _ (slice_get ls p) e in
-      let b = and-parts (adjoins zero_time None l.0) _ l.2 in
-      let k = passing _ (slice_get ls q) b.1 in
-      let d = and-parts (adjoins zero_time (Some l.0) k.0) _ k.2 in
-      absurd (none-follows l.0 k.0 (plain p l.0 l.1) (plain q k.0 k.1) d.0)
+-- a record more in front
+chain-more : (s t : Time) (r : records.LayerRecord) (rs : List records.LayerRecord) → r.start ≡ s → AreChainFrom r.end t rs → AreChainFrom s t (r ∷ rs)
+chain-more s t r [] start chain = absurd chain
+chain-more s t r (q ∷ rs) start chain = (start, chain)
 
-  cover-one : (places : List ℕ) → cover ls t ≡ Places places → IsOne ls t places
-  unfolding cover best_way
-  cover-one places e = by (best_way (chain_to t) ls) refl e
+module _ (rs : List records.LayerRecord) (t : Time) where
+  abbrev links : List Layer
+  links = links_of rs
+
+  serves-is : (r : records.LayerRecord) → serves (link_of r) t ≡ true → Serves t r
+  serves-is r e = by (time_eq r.end t) refl e
     where
-      by : (o : Option (List ℕ)) → best_way (chain_to t) ls ≡ o → cover_of o (reason ls t (reached ls t)) ≡ Places places → IsOne ls t places
+      by : (b : Bool) → time_eq r.end t ≡ b → (b || (r.history && time_lt r.start t && time_le r.floor t && time_lt t r.end)) ≡ true → Serves t r
+      by true is f = inl (sym (eq-is r.end t is))
+      by false is f =
+          let ends = and-parts (r.history && time_lt r.start t && time_le r.floor t) (time_lt t r.end) f in
+          let past = and-parts (r.history && time_lt r.start t) (time_le r.floor t) ends.0 in
+          let after = and-parts r.history (time_lt r.start t) past.0 in
+          inr (after.0, after.1, past.1, ends.1)
+
+  -- the record of a place that is passed, which begins where it has to
+  chain-at : (s : Time) (before : Option Layer) → ((l : Layer) → adjoins zero_time before l ≡ true → l.start ≡ s) → (p : ℕ) (rest : Layer → Bool) → is_passing (λ (l : Layer). adjoins zero_time before l && rest l) (slice_get links p) ≡ true
+      → (r : records.LayerRecord) × (slice_get rs p ≡ Some r) × (r.start ≡ s) × (rest (link_of r) ≡ true)
+  chain-at s before adjoin p rest e =
+      let l = passing (λ (l : Layer). adjoins zero_time before l && rest l) (slice_get links p) e in
+      let r = map-some (slice_get rs p) link_of l.0 (sym (slice_get-map link_of rs p) ∙ l.1) in
+      let is = and-parts (adjoins zero_time before l.0) (rest l.0) l.2 in
+      (r.0, r.1, ap (λ (k : Layer). k.start) r.2 ∙ adjoin l.0 is.0, subst (λ (k : Layer). rest k ≡ true) (sym r.2) is.1)
+
+  chain-on : (s : Time) (before : Option Layer) → ((l : Layer) → adjoins zero_time before l ≡ true → l.start ≡ s) → (p : ℕ) (ps : List ℕ) → goes_on (chain_to t) links before (p ∷ ps) ≡ true → AreChainFrom s t (layers_at rs (p ∷ ps))
+  chain-on s before adjoin p [] e =
+      let r = chain-at s before adjoin p (λ (l : Layer). goes_on (chain_to t) links (Some l) []) e in
+      subst (λ (o : Option records.LayerRecord). AreChainFrom s t (cons_option o [])) (sym r.1) (r.2, serves-is r.0 r.3)
+  chain-on s before adjoin p (q ∷ ps) e =
+      let r = chain-at s before adjoin p (λ (l : Layer). goes_on (chain_to t) links (Some l) (q ∷ ps)) e in
+      let rest = chain-on r.0.end (Some (link_of r.0)) (λ l next. sym (eq-is r.0.end l.start next)) q ps r.3 in
+      subst (λ (o : Option records.LayerRecord). AreChainFrom s t (cons_option o (layers_at rs (q ∷ ps)))) (sym r.1) (chain-more s t r.0 (layers_at rs (q ∷ ps)) r.2 rest)
+
+  chain-way : (places : List ℕ) → is_way (chain_to t) links places ≡ true → IsChainTo t (layers_at rs places)
+  chain-way [] e = absurd (true≢false (sym e))
+  chain-way (p ∷ ps) e = chain-on zero_time None (λ l first. sym (eq-is zero_time l.start first)) p ps e
+
+  -- the records at the places of a cover form a chain
+  cover-chain : (places : List ℕ) → cover links t ≡ Places places → IsChainTo t (layers_at rs places)
+  unfolding cover best_way
+  cover-chain places e = by (best_way (chain_to t) links) refl e
+    where
+      by : (o : Option (List ℕ)) → best_way (chain_to t) links ≡ o → cover_of o (reason links t (reached links t)) ≡ Places places → IsChainTo t (layers_at rs places)
       by None is e = cc e
       by (Some ps) is e =
           let same : ps ≡ places = cc e in
-          subst (IsOne ls t) same (way-one ps (and-parts (is_way (chain_to t) ls ps) _ (find-passes (is_best (chain_to t) ls) (candidates ls) ps is)).0)
+          subst (λ (qs : List ℕ). IsChainTo t (layers_at rs qs)) same (chain-way ps (and-parts (is_way (chain_to t) links ps) _ (find-passes (is_best (chain_to t) links) (candidates links) ps is)).0)
 
 module _ (c : ClusterState) (tables : List Table) (b : HasBackups c tables) where
-  -- the chain of a source is one own layer, which ends at the time
-  pub one-layer : (source : Src) (collection : List ℕ) (at : Option Time) (x : Chain) → IsChain c.book source collection at x → IsOneLayer c.book x
-  one-layer source collection at x found = record { layer = p.0; own = from-has c tables b source collection found.layers found.from p.0 (got-has found.layers one.place p.0 p.1); layers = found.is.are ∙ (ap (filter_map (slice_get found.layers)) one.alone ∙ ap (λ o. cons_option o []) p.1); time = sym one.ends ∙ ap (λ (l : Layer). l.end) p.2 }
-    where
-      links : List Layer
-      links = links_of (map record_of found.layers)
+  -- the chain of a source is one of own layers
+  pub own-chain : (source : Src) (collection : List ℕ) (at : Option Time) (x : Chain) → IsChain c.book source collection at x → IsOwnChain c.book x
+  own-chain source collection at x found =
+      let full = found.from.subdirectory.1 in
+      record {
+        collection = collection;
+        full = full;
+        layers = subst (AllByRecursion (IsOwnLayer c.book collection full)) (sym found.is.are)
+            (AllByRecursion-has (IsOwnLayer c.book collection full) (filter_map (slice_get found.layers) found.is.places) (λ p has.
+            let place = filter_map-has (slice_get found.layers) p found.is.places has in
+            from-own c tables b source collection found.layers found.from p (got-has found.layers place.0 p place.2)));
+        chain = subst (IsChainTo x.time) (at-map record_of found.layers found.is.places ∙ ap (map record_of) (sym found.is.are)) (cover-chain (map record_of found.layers) x.time found.is.places found.is.cover);
+      }
 
-      link-of : (i : ℕ) (l : Layer) → slice_get links i ≡ Some l → (p : LayerName × Manifest) × (slice_get found.layers i ≡ Some p) × (l ≡ link_of (record_of p))
-      link-of i l e = by (slice_get found.layers i) refl (sym (slice_get-map link_of (map record_of found.layers) i ∙ ap (option_map link_of) (slice_get-map record_of found.layers i)) ∙ e)
-        where
-          by : (o : Option (LayerName × Manifest)) → slice_get found.layers i ≡ o → option_map link_of (option_map record_of o) ≡ Some l → (p : LayerName × Manifest) × (slice_get found.layers i ≡ Some p) × (l ≡ link_of (record_of p))
-          by None is e = cc e
-          by (Some p) is e = (p, is, (let same : link_of (record_of p) ≡ l = cc e in sym same))
+  -- an own layer of a chain is in the book
+  own-layer : (x : Chain) → IsOwnChain c.book x → (p : LayerName × Manifest) → Has p x.layers.items → Has p c.book.layers
+  own-layer x chain p has = (has-AllByRecursion (IsOwnLayer c.book chain.collection chain.full) p x.layers.items chain.layers has).own
 
-      plain : (i : ℕ) (l : Layer) → slice_get links i ≡ Some l → IsPlain l
-      plain i l e =
-          let q = link-of i l e in
-          let full = booked-full c tables b q.0 (from-has c tables b source collection found.layers found.from q.0 (got-has found.layers i q.0 q.1)) in
-          subst IsPlain (sym q.2) (record { start = full.start; ends = full.ends; history = full.history })
-
-      one : IsOne links x.time found.is.places
-      one = cover-one links plain x.time found.is.places found.is.cover
-
-      p : (p : LayerName × Manifest) × (slice_get found.layers one.place ≡ Some p) × (one.layer ≡ link_of (record_of p))
-      p = link-of one.place one.layer one.got
+  pub own-proper : (x : Chain) → IsOwnChain c.book x → AreProperLayers x.layers.items
+  own-proper x chain = AllByRecursion-has (λ (p : LayerName × Manifest). IsProperManifest p.1) x.layers.items (λ p has. (b.layers p (own-layer x chain p has)).proper)

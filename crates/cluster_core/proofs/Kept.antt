@@ -1,19 +1,18 @@
 -- The machines that a cluster stands for, where a command changes a table, adds one or moves the clock.
-use Rattle.std.proofs.Common.{◌≡◌, ◌≢◌, inl, inr, ℕ, ◌+◌, ◌==◌, nat_lt, Bool, true, false, ◌&&◌, cond, refl, sym, ap, ◌∙◌, subst, arith, List, [], ◌∷◌, ◌++◌, map, length, Option, Some, None, option_map, unwrap_or, slice_get, slice_set, reverse, get_or}
+use Rattle.std.proofs.Common.{◌≡◌, ◌≢◌, inl, inr, ℕ, ◌+◌, ◌==◌, nat_lt, Bool, true, false, cond, refl, sym, ap, ◌∙◌, subst, arith, List, [], ◌∷◌, ◌++◌, map, length, Option, Some, option_map, unwrap_or, slice_get, slice_set, reverse, get_or}
 use Rattle.std.proofs.Math.Path.{fun_ext}
 use Rattle.std.proofs.lemmas.Bool.{cases_Bool}
 use Rattle.std.proofs.lemmas.Bool.Decides.{nat_tests}
 use Rattle.std.proofs.lemmas.List.{map-append, length-append}
 use Rattle.std.proofs.lemmas.List.Sums.{sum_by-set, sum_by_push}
 use Rattle.std.proofs.lemmas.Option.{slice_get-map, slice_get_within, get_or_from_slice_get}
-use Rattle.mvcc_keys.specs.Times.{Time, time_lt, time_le, zero_time, next}
+use Rattle.mvcc_keys.specs.Times.{Time, time_lt, time_le, zero_time}
 use Rattle.table_descriptors.specs.Descriptors.{Schema, key_kinds}
 use Rattle.fact_model.specs.Facts.{date}
 use Rattle.list_laws.specs.Members.{Has}
 use Rattle.list_laws.proofs.Members.{has-append_cases, reverse-has}
 use Rattle.mvcc_keys.proofs.TimeOrder.{le-refl, le-trans, lt-le, lt-le-absurd, le-lt-lt, zero-le}
 use Rattle.row_codec.specs.declared.rows.Kind.{Kind}
-use Rattle.row_codec.proofs.KeyOrder.{both_true}
 use Rattle.introduced_spans.specs.PlanLaws.{ascend_after}
 use Rattle.layer_objects.specs.Storable.{IsSized}
 use Rattle.layer_book.specs.Books.{no_layers}
@@ -179,13 +178,13 @@ keeps-described c at tables i t d e k got lt has id kinds columns on =
       keyed = λ x y hx hy. as-first x hx ∙ sym (as-first y hy);
     })
   where
-    -- each has the key columns of the one that is changed
-    as-first : (x : Schema) → Has x (t.descriptors ++ e ∷ []) → x.key_columns ≡ d.key_columns
-    as-first x is = elim (has-append_cases x t.descriptors (e ∷ []) is) [ inl old ↦ (k.orderly i t got).keyed x d old has | inr new ↦ as-new x new ]
-
     as-new : (x : Schema) → Has x (e ∷ []) → x.key_columns ≡ d.key_columns
     as-new x (inl is) = ap (λ (y : Schema). y.key_columns) is ∙ columns
     as-new x (inr none) = absurd none
+
+    -- each has the key columns of the one that is changed
+    as-first : (x : Schema) → Has x (t.descriptors ++ e ∷ []) → x.key_columns ≡ d.key_columns
+    as-first x is = elim (has-append_cases x t.descriptors (e ∷ []) is) [ inl old ↦ (k.orderly i t got).keyed x d old has | inr new ↦ as-new x new ]
 
     now : (x : Schema) → Has x (e ∷ []) → time_le x.modified at ≡ true
     now x (inl is) = subst (λ (y : Schema). time_le y.modified at ≡ true) (sym is) (subst (λ (y : Time). time_le y at ≡ true) (sym on) (le-refl at))

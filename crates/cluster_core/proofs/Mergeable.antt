@@ -1,22 +1,18 @@
 -- Layers of a cluster's tables can be merged.
-use Rattle.std.proofs.Common.{◌≡◌, ◌∙◌, ℕ, ◌+◌, ◌<◌, ◌≤◌, ◌^◌, true, refl, sym, ap, ap₂, subst, arith, List, [], ◌∷◌, ◌++◌, length, map, Some, Result, Ok, Err, append-nil, slice_get}
+use Rattle.std.proofs.Common.{◌≡◌, ◌∙◌, ℕ, ◌+◌, ◌<◌, ◌≤◌, ◌^◌, sym, ap, ap₂, subst, arith, List, [], ◌++◌, length, map, Some, slice_get}
 use Rattle.std.proofs.lemmas.List.{length-map}
 use Rattle.std.proofs.lemmas.Option.{slice_get_within}
 use Rattle.row_codec.specs.declared.rows.Kind.{Kind}
-use Rattle.row_codec.specs.declared.rows.Cell.{Cell}
 use Rattle.row_codec.specs.RowKeys.{IsKey, row_key}
-use Rattle.row_codec.specs.RowOrder.{row_cmp}
 use Rattle.row_codec.specs.RowValues.{row_value}
 use Rattle.row_codec.proofs.KeyLaws.{row_keys-exact}
 use Rattle.row_codec.proofs.ValueLaws.{row_values-exact}
-use Rattle.list_laws.specs.Members.{Has}
 use Rattle.list_laws.proofs.Members.{has-map}
-use Rattle.fact_model.specs.Facts.{Del, DelRange, IsApart, Put, date, touches}
-use Rattle.fact_model.specs.Listed.{is_point}
+use Rattle.fact_model.specs.Facts.{Del, DelRange, IsApart, Put}
 use Rattle.fact_model.specs.Listings.{RangesDiffer}
 use Rattle.history_model.specs.Histories.{Table}
 use Rattle.history_model.specs.Rows.{Cells, Key, RowFact}
-use Rattle.table_rows.specs.RowTables.{AreRowFacts, IsCells, IsRowFact, coded}
+use Rattle.table_rows.specs.RowTables.{AreRowFacts, IsRowFact, coded}
 use Rattle.table_rows.proofs.Coded.{date-coded, point-coded, touches-coded}
 use Rattle.version_store.specs.Tables.{bytes_cmp}
 use Rattle.layer_objects.specs.Objects.{by_id, table_facts, table_kinds}

@@ -1,5 +1,5 @@
 -- What a call on one layer's objects leaves of another layer, and layers that are final.
-use Rattle.std.proofs.Common.{◌≡◌, ◌≢◌, inl, inr, ⊎_elim, ℕ, true, List, ◌∙◌, subst, sym}
+use Rattle.std.proofs.Common.{◌≡◌, ◌≢◌, inl, inr, ⊎_elim, ℕ, true, List, ◌∙◌}
 use Rattle.mvcc_keys.specs.Times.{Time, time_le}
 use Rattle.history_model.specs.Histories.{Table}
 use Rattle.history_model.specs.Layers as recorded

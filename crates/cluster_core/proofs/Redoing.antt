@@ -1,5 +1,5 @@
--- RESTORE DATABASE from a layer in the book, over a ready disk and over every disk.
-use Rattle.std.proofs.Common.{◌≡◌, ◌⊎◌, inl, inr, ⊎_elim, ℕ, ◌+◌, ◌≤◌, ◌<◌, ◌^◌, false, nat_lt, length, List, [], ◌∷◌, ◌++◌, map, Option, Some, None, option_and_then, refl, sym, ap, ap₂, subst, ◌∙◌, arith, Result, Ok, Err}
+-- RESTORE DATABASE from a chain of layers in the book, over a ready disk and over every disk.
+use Rattle.std.proofs.Common.{◌≡◌, ◌⊎◌, inl, inr, ⊎_elim, ℕ, ◌+◌, ◌-◌, ◌≤◌, ◌^◌, false, nat_lt, length, List, [], ◌∷◌, ◌++◌, map, Option, Some, None, option_and_then, refl, sym, ap, ap₂, subst, ◌∙◌, Result, Ok, Err}
 use Rattle.std.specs.List.{AllByRecursion}
 use Rattle.std.specs.Global.{Vec}
 use Rattle.std.specs.Prelude.{IfErr, IfOk, OnOk}
@@ -9,13 +9,13 @@ use Rattle.reply_texts.specs.declared.answers.Answer.{Answer}
 use Rattle.reply_texts.specs.declared.answers.Answer.TheVariants.{RestoreDone}
 use Rattle.reply_texts.specs.declared.answers.RestoredTable.{RestoredTable}
 use Rattle.reply_texts.specs.declared.replies.Response.{Response}
-use Rattle.mvcc_keys.specs.Times.{IsTime, Time, next}
-use Rattle.table_descriptors.specs.Descriptors.{IsProperSchema, Schema}
+use Rattle.mvcc_keys.specs.Times.{IsTime, Time, next, zero_time}
+use Rattle.table_descriptors.specs.Descriptors.{Schema}
 use Rattle.list_laws.specs.Members.{Has}
-use Rattle.list_laws.proofs.Members.{has-append_cases, has-map}
+use Rattle.list_laws.proofs.Members.{has-AllByRecursion, has-append_cases, has-map}
 use Rattle.history_model.specs.Histories.{Table}
 use Rattle.history_model.specs.Layers.{LayerRecord}
-use Rattle.schema_catalog.specs.Catalogs.{Schemas, history_of, next_id}
+use Rattle.schema_catalog.specs.Catalogs.{Schemas}
 use Rattle.outside_world.specs.Disk.{View, IsImage, IsKnown, OnlyReads}
 use Rattle.outside_world.specs.Moments.{LeavesOnly}
 use Rattle.outside_world.specs.Objects.{Objects, at}
@@ -25,7 +25,7 @@ use Rattle.layer_manifest.specs.declared.manifest.Manifest.{Manifest}
 use Rattle.layer_model.specs.declared.names.LayerName.{LayerName}
 use Rattle.layer_model.specs.Layers as stored
 use Rattle.layer_objects.specs.Objects.{objects_of}
-use Rattle.layer_chains.specs.Chains.{IsShown}
+use Rattle.layer_chains.specs.Chains.{IsShown, Serves}
 use Rattle.id_remap.specs.Remapping.{new_ids, remap_fault}
 use Rattle.id_remap.specs.declared.targets.Target.TheVariants as target
 use Rattle.reply_texts.specs.declared.refusals.Refusal.{Refusal}
@@ -41,7 +41,7 @@ use Rattle.cluster_core.specs.declared.halts.Halt.TheVariants.{Refused, Disk, Me
 use Rattle.cluster_core.specs.declared.chains.Chain.{Chain}
 use Rattle.cluster_core.specs.ClusterView.{ClusterState, record_of}
 use Rattle.cluster_core.specs.Standing.{HasBackups, Keeps, MayStep, Runs, StandsFor, machine_of}
-use Rattle.cluster_core.specs.Chains.{IsOneLayer, IsStandingChain}
+use Rattle.cluster_core.specs.Chains.{IsOwnChain, IsOwnLayer, IsStandingChain}
 use Rattle.cluster_core.specs.Chains.{entries_in, stored_rows}
 use Rattle.cluster_core.specs.declared.restores.Plan.{Plan}
 use Rattle.cluster_core.specs.Restoring.{AreRowsOfEach, count_rows, entries_of, made_tables}
@@ -51,10 +51,11 @@ use Rattle.cluster_core.proofs.Restored.{all-restored}
 use Rattle.cluster_core.proofs.Restorings.{count-is}
 use Rattle.cluster_core.specs.Restores.{AreTested, EndsBy, IsPlanned, refusal_of_chosen, restored_by, with_restore, room_test, shown_tables}
 use Rattle.cluster_core.proofs.Chosen.{all-shown}
-use Rattle.cluster_core.proofs.Covers.{booked-full}
+use Rattle.cluster_core.proofs.Covers.{last-map, last-serves}
 use Rattle.cluster_core.proofs.Others.{final}
+use Rattle.machine_model.proofs.Lists.{got-has}
 use Rattle.machine_model.proofs.Past.{chosen-later, finding-later, later-then, next-later}
-use Rattle.cluster_core.proofs.Rereading.{chain-stands, items-stored, over, shown-chosen}
+use Rattle.cluster_core.proofs.Rereading.{chain-stands, items-stored, over, record-is, shown-chosen}
 
 -- ---- a disk that is only read
 
@@ -98,7 +99,7 @@ restored-ready m after to v layers jobs ready = record {
 
 -- ---- the command
 
-module _ (c : ClusterState) (database new : List ℕ) (x : Chain) (layer : LayerName × Manifest) (made published : Time) (one : IsOneLayer c.book x) (last : last_of x.layers.items ≡ Some layer) where
+module _ (c : ClusterState) (database new : List ℕ) (x : Chain) (layer : LayerName × Manifest) (made published : Time) (chain : IsOwnChain c.book x) (last : last_of x.layers.items ≡ Some layer) where
   abbrev means : Machine → Stepped
   means m = restore_chain m database new x.time made published (map record_of x.layers.items)
 
@@ -108,31 +109,29 @@ module _ (c : ClusterState) (database new : List ℕ) (x : Chain) (layer : Layer
   abbrev shown : List Schema
   shown = shown_tables database x.time layer.1
 
-  layer-is : one.layer ≡ layer
-  layer-is = let e : Some one.layer ≡ Some layer = sym (ap last_of one.layers) ∙ last in cc e
+  among : Has layer x.layers.items
+  among = got-has x.layers.items (length x.layers.items - 1) layer last
 
   pub own : Has layer c.book.layers
-  own = subst (λ (p : LayerName × Manifest). Has p c.book.layers) layer-is one.own
-
-  pub ends : x.time ≡ r.end
-  ends = one.time ∙ ap (λ (p : LayerName × Manifest). p.0.end) layer-is
+  own = (has-AllByRecursion (IsOwnLayer c.book chain.collection chain.full) layer x.layers.items chain.layers among).own
 
   last-is : last_of (map record_of x.layers.items) ≡ Some r
-  last-is = ap (λ (ls : List (LayerName × Manifest)). last_of (map record_of ls)) one.layers ∙ ap (λ (p : LayerName × Manifest). Some (record_of p)) layer-is
+  last-is = last-map record_of x.layers.items layer last
+
+  serves : Serves x.time r
+  serves = last-serves zero_time x.time (map record_of x.layers.items) r chain.chain last-is
 
   means-is : (m : Machine) → means m ≡ restore_chosen m new x.time made published (map record_of x.layers.items) (chosen_tables m.history.tables database x.time r)
   means-is m = ap (λ (o : Option LayerRecord). with_found m NothingToRestore o (λ q. restore_chosen m new x.time made published (map record_of x.layers.items) (chosen_tables m.history.tables database x.time q))) last-is
 
-  module _ (first-is : next c.clock ≡ Some made) (second-is : next made ≡ Some published) (proper : (id : ℕ) → 100 ≤ id → id < next_id c.schemas → AllByRecursion IsProperSchema (history_of c.schemas id)) (few : 100 + length c.schemas.tables ≤ 2 ^ 32) (events : c.events ≤ 1000000) where
+  module _ (first-is : next c.clock ≡ Some made) (second-is : next made ≡ Some published) (covered : IsTime x.time) (few : 100 + length c.schemas.tables ≤ 2 ^ 32) (events : c.events ≤ 1000000) where
     pub means-later : (tables : List Table) → IsLater (machine_of c tables) (means (machine_of c tables)).machine
     means-later tables = let m = machine_of c tables in
         finding-later m NothingToRestore (last_of (map record_of x.layers.items)) _ (λ q. chosen-later m new x.time made published (map record_of x.layers.items) (chosen_tables tables database x.time q) (next-later c.clock made first-is) (next-later made published second-is))
 
     module _ (tables : List Table) (k : Keeps c tables) (b : HasBackups c tables) where
       pub chosen-is : shown ≡ chosen_tables tables database x.time r
-      chosen-is =
-          ap (λ t. shown_tables database t layer.1) ends
-          ∙ (shown-chosen c tables k b proper few events layer own database ∙ ap (λ t. chosen_tables tables database t r) (sym ends))
+      chosen-is = shown-chosen c tables k b few events layer own x.time covered serves database
 
       catalog-is : catalog_of (machine_of c tables) ≡ c.schemas
       catalog-is = ap (λ (ts : List (List Schema)). record c.schemas { tables = ts }) k.schemas
@@ -173,13 +172,15 @@ module _ (c : ClusterState) (database new : List ℕ) (x : Chain) (layer : Layer
       ready : IsReady (Some (machine_of c s.tables)) (Some to) first
       ready = subst (λ (y : Machine). IsReady (Some y) (Some to) first) s.machine_is may.ready
 
-      layers-are : x.layers.items ≡ layer ∷ []
-      layers-are = one.layers ∙ ap (λ (p : LayerName × Manifest). p ∷ []) layer-is
+      -- each layer in the book is there as it was made
+      layer-there : (p : LayerName × Manifest) → Has p c.book.layers → IsThere (objects_of s.tables (record_of p)) first.objects
+      layer-there p has =
+          let q = record_of p in
+          let is : objects_of to.history.tables q ≡ objects_of s.tables q = final c s.tables to.history.tables c.clock q s.keeps later.tables (record-is c s.tables s.keeps s.backups few events p has) (over c s.tables s.keeps s.backups few events p has) in
+          subst (λ (w : stored.LayerObjects). IsThere w first.objects) is (ready.kept.there q (has-map record_of p c.book.layers has))
 
-      pub stands-there : IsStandingChain s.tables r.scope (r ∷ []) x.layers.items x.time first.objects
-      stands-there =
-          let is : objects_of to.history.tables r ≡ objects_of s.tables r = final c s.tables to.history.tables c.clock r s.keeps later.tables (booked-full c s.tables s.backups layer own) (over c s.tables s.keeps s.backups proper few events layer own) in
-          chain-stands c s.tables s.keeps s.backups proper few events layer own x.layers.items x.time first.objects layers-are ends (subst (λ (w : stored.LayerObjects). IsThere w first.objects) is (ready.kept.there r (has-map record_of layer c.book.layers own)))
+      pub stands-there : IsStandingChain s.tables r.scope (map record_of x.layers.items) x.layers.items x.time first.objects
+      stands-there = chain-stands c s.tables s.keeps s.backups few events x chain layer among first.objects layer-there
 
       pub shown-there : AllByRecursion (IsShown s.tables r.scope x.time) shown
       shown-there = subst (AllByRecursion (IsShown s.tables r.scope x.time)) (sym (chosen-is s.tables s.keeps s.backups)) (all-shown s.tables (λ i table got. (stands-there.mergeable i table got).storable) r database x.time)

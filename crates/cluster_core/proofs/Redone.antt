@@ -33,7 +33,7 @@ use Rattle.cluster_core.proofs.Here.{kept-backups}
 use Rattle.machine_model.proofs.Past.{changed-modified, next-later, past-more}
 use Rattle.machine_model.proofs.Lists.{got-push}
 use Rattle.cluster_core.proofs.Restored.{all-first}
-use Rattle.cluster_core.proofs.Storing.{has-left}
+use Rattle.list_laws.proofs.Members.{has-append_left}
 
 -- ---- room
 
@@ -63,10 +63,11 @@ restore-backups old new tables later k b past le name jobs book =
     let same : HasBackups (record new { jobs = old.jobs }) later = kept-backups old (record new { jobs = old.jobs }) tables later k b past le name refl book in
     record {
       backups = λ place q got. ⊎_elim
-          (λ (before : slice_get old.jobs place ≡ Some (Backup q)). let o = same.backups place q before in record { number = o.number; cluster = o.cluster; full = o.full; over = o.over; few = o.few })
+          (λ (before : slice_get old.jobs place ≡ Some (Backup q)). let o = same.backups place q before in record { number = o.number; cluster = o.cluster; is = o.is; version = o.version; over = o.over; few = o.few; listed = o.listed })
           (λ last. absurd (let no : Restore ≡ Backup q = last.1 in cc no))
           (got-push old.jobs Restore place (Backup q) (sym (ap (λ (js : List Job). slice_get js place) jobs) ∙ got));
-      layers = λ p has. (let o = same.layers p has in record { among = subst (Has (Backup (record_of p))) (sym jobs) (has-left (Backup (record_of p)) old.jobs (Restore ∷ []) o.among); manifest = o.manifest; chunks = o.chunks; proper = o.proper });
+      layers = λ p has. (let o = same.layers p has in record { among = subst (Has (Backup (record_of p))) (sym jobs) (has-append_left (Backup (record_of p)) old.jobs (Restore ∷ []) o.among); manifest = o.manifest; chunks = o.chunks; proper = o.proper });
+      scopes = same.scopes;
     }
 
 -- new tables begin after a time before both of theirs

@@ -1,52 +1,41 @@
--- A layer in the book that stands on a ready disk, and the rows that are read of it.
-use Rattle.std.proofs.Common.{◌≡◌, inl, inr, ⊎_elim, ℕ, ◌+◌, ◌-◌, ◌<◌, ◌≤◌, ◌^◌, Bool, true, false, nat_lt, if◌then◌else◌, refl, sym, ap, ◌∙◌, subst, arith, List, [], ◌∷◌, length, map, Option, Some, None, option_to_list, slice_get}
+-- Layers in the book that stand on a ready disk, and the rows that are read of them.
+use Rattle.std.proofs.Common.{◌≡◌, inl, inr, ⊎_elim, ℕ, ◌+◌, ◌<◌, ◌≤◌, ◌^◌, true, refl, sym, ap, ◌∙◌, subst, arith, List, [], ◌∷◌, length, map}
 use Rattle.std.specs.Global.{Vec}
 use Rattle.std.specs.List.{AllByRecursion}
-use Rattle.std.specs.Prelude.{reverse}
-use Rattle.std.proofs.lemmas.Bool.{cases_Bool}
-use Rattle.std.proofs.lemmas.Bool.Decides.{nat_tests}
 use Rattle.std.proofs.lemmas.List.{length-map}
-use Rattle.std.proofs.lemmas.Option.{slice_get_within}
 use Rattle.mvcc_keys.specs.Times.{IsTime, Time, time_le}
 use Rattle.mvcc_keys.specs.declared.entries.Entry.{Entry}
 use Rattle.row_codec.specs.declared.rows.Kind.{Kind}
-use Rattle.table_descriptors.specs.Descriptors.{IsProperSchema, Schema, key_kinds}
+use Rattle.table_descriptors.specs.Descriptors.{Schema, key_kinds}
 use Rattle.list_laws.specs.Members.{Has}
-use Rattle.list_laws.proofs.Members.{AllByRecursion-has, all-weaker, has-AllByRecursion, map-has, reverse-has}
+use Rattle.list_laws.proofs.Members.{all-weaker, has-AllByRecursion, has-map}
 use Rattle.history_model.specs.Rows.{RowItem}
-use Rattle.history_model.specs.Histories.{Table, in_force}
+use Rattle.history_model.specs.Histories.{Table}
 use Rattle.history_model.specs.Layers.{LayerRecord}
-use Rattle.schema_catalog.specs.Catalogs.{history_of, next_id}
-use Rattle.introduced_spans.specs.declared.plans.TablePlan.{TablePlan}
-use Rattle.introduced_spans.specs.Spans.{layer_descriptors}
 use Rattle.outside_world.specs.Objects.{Objects}
 use Rattle.layer_manifest.specs.declared.manifest.Manifest.{Manifest}
-use Rattle.layer_manifest.specs.declared.manifest.TablePart.{TablePart}
 use Rattle.layer_model.specs.declared.names.LayerName.{LayerName}
 use Rattle.layer_model.specs.declared.names.Part.TheVariants.{Chunk}
-use Rattle.layer_objects.specs.Contents.{part_of}
-use Rattle.layer_objects.specs.Objects.{described, manifest_of, objects_of, plan_of}
-use Rattle.layer_objects.specs.Storable.{AreStorable, MayBeWritten}
-use Rattle.cluster_core.specs.FullLayers.{IsFull}
-use Rattle.cluster_core.proofs.FullLayers.{full-record}
-use Rattle.layer_objects.proofs.Writable.{layers-written, manifests-tell, now-listed}
+use Rattle.layer_objects.specs.Objects.{manifest_of, objects_of}
+use Rattle.layer_objects.specs.Storable.{AreStorable, IsRecord, MayBeWritten}
+use Rattle.layer_objects.proofs.Writable.{layers-written, manifests-tell}
+use Rattle.layer_chains.specs.Chains.{Serves}
 use Rattle.layer_chains.specs.Standing.{AreStandingLayers, IsStandingLayer}
 use Rattle.restore_rows.specs.Putting.{IsItem}
-use Rattle.machine_model.specs.Machine.{Backup}
 use Rattle.machine_model.specs.Disks.{IsThere}
 use Rattle.machine_model.specs.Restores.{chosen_tables, rows_to_restore}
 use Rattle.cluster_core.specs.ClusterView.{ClusterState, record_of}
 use Rattle.cluster_core.specs.Standing.{HasBackups, Keeps}
 use Rattle.cluster_core.specs.Chains as chains
-use Rattle.cluster_core.specs.Chains.{AreTypedRows, IsRowItem, IsStandingChain, entries_in, stored_rows}
+use Rattle.cluster_core.specs.declared.chains.Chain.{Chain}
+use Rattle.cluster_core.specs.Chains.{AreTypedRows, IsOwnChain, IsOwnLayer, IsRowItem, IsStandingChain, entries_in, stored_rows}
 use Rattle.cluster_core.specs.Restoring.{AreRowsOfEach, AreStoredRows, entries_of}
 use Rattle.cluster_core.specs.Restores.{AreTested, shown_tables}
 use Rattle.cluster_core.proofs.Backing.{storable}
 use Rattle.cluster_core.proofs.Choosing.{chosen-shown}
-use Rattle.cluster_core.proofs.Covers.{booked-full, has-place}
+use Rattle.cluster_core.proofs.Covers.{booked}
 use Rattle.cluster_core.proofs.Items.{chosen-rows, rows-read}
 use Rattle.cluster_core.proofs.Mergeable.{mergeable}
-use Rattle.machine_model.proofs.Lists.{find-has}
 
 -- ---- rows that are put anew
 
@@ -82,72 +71,68 @@ module _ (made : Time) (time : IsTime made) where
         items-stored tables s r database t ds vs (λ x has. all x (inr has)) tested.1 tail,
       )
 
--- ---- a layer in the book
+-- ---- layers in the book
 
-module _ (c : ClusterState) (tables : List Table) (k : Keeps c tables) (b : HasBackups c tables) (proper : (id : ℕ) → 100 ≤ id → id < next_id c.schemas → AllByRecursion IsProperSchema (history_of c.schemas id)) (few : 100 + length c.schemas.tables ≤ 2 ^ 32)
-    (events : c.events ≤ 1000000) (p : LayerName × Manifest) (own : Has p c.book.layers) where
-  abbrev r : LayerRecord
-  r = record_of p
+module _ (c : ClusterState) (tables : List Table) (k : Keeps c tables) (b : HasBackups c tables) (few : 100 + length c.schemas.tables ≤ 2 ^ 32) (events : c.events ≤ 1000000) where
+  module _ (p : LayerName × Manifest) (own : Has p c.book.layers) where
+    abbrev r : LayerRecord
+    r = record_of p
 
-  full : IsFull r
-  full = booked-full c tables b p own
+    pub record-is : IsRecord r
+    record-is = (booked c tables b p own).1.is
 
-  each-proper : (id : ℕ) → AllByRecursion IsProperSchema (history_of c.schemas id)
-  each-proper id = elim (cases_Bool (nat_lt id 100)) [
-    | inl low ↦ rw low tt
-    | inr high ↦ by high (slice_get c.schemas.tables (id - 100)) refl
-  ]
-    where
-      by : nat_lt id 100 ≡ false → (o : Option (List Schema)) → slice_get c.schemas.tables (id - 100) ≡ o → AllByRecursion IsProperSchema (history_of c.schemas id)
-      by high None is = rw (high, is) tt
-      by high (Some ds) is =
-          let within = slice_get_within c.schemas.tables (id - 100) ds is in
-          let low : 100 ≤ id = grind (arith, nat_tests, high) in
-          proper id low (omega (arith, within, low))
+    may : MayBeWritten tables r
+    may =
+        let count : length tables ≡ length c.schemas.tables = sym (length-map tables (λ (x : Table). x.descriptors)) ∙ ap length k.schemas in
+        let kept = k.events in
+        layers-written tables r (storable c tables k) (omega (arith, count, few)) (omega (arith, kept, events)) record-is (booked c tables b p own).1.listed
 
-  in-force-proper : (ds : List Schema) (t : Time) → AllByRecursion IsProperSchema ds → AllByRecursion IsProperSchema (option_to_list (in_force ds t))
-  in-force-proper ds t all = by (in_force ds t) refl
-    where
-      by : (o : Option Schema) → in_force ds t ≡ o → AllByRecursion IsProperSchema (option_to_list o)
-      by None is = tt
-      by (Some d) is = (has-AllByRecursion IsProperSchema d ds all (reverse-has ds d (find-has (λ (y : Schema). time_le y.modified t) (reverse ds) d is)), tt)
+    pub over : time_le r.end c.clock ≡ true
+    over = (booked c tables b p own).1.over
 
-  parts-proper : (plans : List TablePlan) → AllByRecursion (λ (t : TablePart). AllByRecursion IsProperSchema t.descriptors) (map (part_of (described tables) r.history (plan_of tables r).floor r.end) plans)
-  parts-proper [] = tt
-  parts-proper (q ∷ qs) =
-      let floor = (plan_of tables r).floor in
-      let ds = history_of (described tables) q.id in
-      let all : AllByRecursion IsProperSchema ds = subst (λ (ts : List (List Schema)). AllByRecursion IsProperSchema (history_of (record { databases = []; tables = ts; limit = 0 }) q.id)) (sym k.schemas) (each-proper q.id) in
-      (subst (λ (h : Bool). AllByRecursion IsProperSchema (layer_descriptors h floor r.end ds)) (sym full.history) (in-force-proper ds r.end all), parts-proper qs)
+    told : p.1 ≡ manifest_of tables r
+    told = let o = b.layers p own in (manifests-tell tables r p.1 may o.proper o.manifest).0
 
-  may : MayBeWritten tables r
-  may =
-      let count : length tables ≡ length c.schemas.tables = sym (length-map tables (λ (x : Table). x.descriptors)) ∙ ap length k.schemas in
-      let kept = k.events in
-      layers-written tables r (storable c tables k) (omega (arith, count, few)) (omega (arith, kept, events)) (full-record r full) (now-listed tables r full.history (parts-proper (plan_of tables r).tables))
+    -- what its manifest shows at a time that it serves is what the tables do
+    pub shown-chosen : (t : Time) → IsTime t → Serves t r → (database : List ℕ) → shown_tables database t p.1 ≡ chosen_tables tables database t r
+    shown-chosen t time serves database = ap (shown_tables database t) told ∙ chosen-shown tables (storable c tables k) r record-is t time serves database
 
-  pub over : time_le r.end c.clock ≡ true
-  over = let place = has-place (Backup r) c.jobs (b.layers p own).among in (b.backups place.0 r place.1).over
+    standing : (objects : Objects) → IsThere (objects_of tables r) objects → IsStandingLayer tables objects r p
+    standing objects there = record {
+      name = refl;
+      manifest = told;
+      may = may;
+      chunks = λ i lt. ⊎_elim (λ whole. whole (Chunk i) lt) (λ whole. whole (Chunk i) lt) there;
+    }
 
-  told : p.1 ≡ manifest_of tables r
-  told = let o = b.layers p own in (manifests-tell tables r p.1 may o.proper o.manifest).0
+  module _ (collection : List ℕ) (full : Time) where
+    abbrev AreOwn : List (LayerName × Manifest) → Type 0
+    AreOwn ps = AllByRecursion (IsOwnLayer c.book collection full) ps
 
-  pub shown-chosen : (database : List ℕ) → shown_tables database r.end p.1 ≡ chosen_tables tables database r.end r
-  shown-chosen database = ap (shown_tables database r.end) told ∙ chosen-shown tables r database full
+    standing-layers : (objects : Objects) → ((p : LayerName × Manifest) → Has p c.book.layers → IsThere (objects_of tables (record_of p)) objects) → (ps : List (LayerName × Manifest)) → AreOwn ps → AreStandingLayers tables objects (map record_of ps) ps
+    standing-layers objects there [] all = tt
+    standing-layers objects there (p ∷ ps) all = (standing p all.0.own objects (there p all.0.own), standing-layers objects there ps all.1)
 
-  standing : (objects : Objects) → IsThere (objects_of tables r) objects → IsStandingLayer tables objects r p
-  standing objects there = record {
-    name = refl;
-    manifest = told;
-    may = may;
-    chunks = λ i lt. ⊎_elim (λ whole. whole (Chunk i) lt) (λ whole. whole (Chunk i) lt) there;
-  }
+    records-are : (ps : List (LayerName × Manifest)) → AreOwn ps → AllByRecursion IsRecord (map record_of ps)
+    records-are [] all = tt
+    records-are (p ∷ ps) all = (record-is p all.0.own, records-are ps all.1)
 
-  -- the chain of one layer, which ends at the time
-  pub chain-stands : (layers : List (LayerName × Manifest)) (t : Time) (objects : Objects) → layers ≡ p ∷ [] → t ≡ r.end → IsThere (objects_of tables r) objects → IsStandingChain tables r.scope (r ∷ []) layers t objects
-  chain-stands layers t objects are ends there = record {
-    stored = subst (AreStandingLayers tables objects (r ∷ [])) (sym are) (standing objects there, tt);
-    scopes = record { each = (full-record r full, tt); scopes = (refl, tt) };
-    chain = (full.start, inl ends);
-    mergeable = mergeable c tables k few;
-  }
+    -- those of one subdirectory have the scope of each
+    one-scope : (q : LayerName × Manifest) → IsOwnLayer c.book collection full q → (ps : List (LayerName × Manifest)) → AreOwn ps → AllByRecursion (λ (x : LayerRecord). x.scope ≡ (record_of q).scope) (map record_of ps)
+    one-scope q own [] all = tt
+    one-scope q own (p ∷ ps) all = (
+      b.scopes (record_of p) (record_of q) (has-map record_of p c.book.layers all.0.own) (has-map record_of q c.book.layers own.own) (all.0.collection_is ∙ sym own.collection_is) (all.0.full_is ∙ sym own.full_is),
+      one-scope q own ps all.1,
+    )
+
+  -- a chain of own layers stands where all own layers are there
+  pub chain-stands : (x : Chain) (chain : IsOwnChain c.book x) (q : LayerName × Manifest) → Has q x.layers.items → (objects : Objects) → ((p : LayerName × Manifest) → Has p c.book.layers → IsThere (objects_of tables (record_of p)) objects)
+      → IsStandingChain tables (record_of q).scope (map record_of x.layers.items) x.layers.items x.time objects
+  chain-stands x chain q among objects there =
+      let own = has-AllByRecursion (IsOwnLayer c.book chain.collection chain.full) q x.layers.items chain.layers among in
+      record {
+        stored = standing-layers chain.collection chain.full objects there x.layers.items chain.layers;
+        scopes = record { each = records-are chain.collection chain.full x.layers.items chain.layers; scopes = one-scope chain.collection chain.full q own x.layers.items chain.layers };
+        chain = chain.chain;
+        mergeable = mergeable c tables k few;
+      }

@@ -108,6 +108,12 @@ module _ (made published : Time) (s : Schema) (items : List RowItem) (begins : t
   unfolding changed_schema
   ascend = subst (λ (x : Time). (time_lt zero_time x && (time_lt x published && true)) ≡ true) (sym first.1) (rw (begins, later) refl)
 
+  same-key : (d : Schema) → Has d (s ∷ e ∷ []) → d.key_columns ≡ s.key_columns
+  unfolding changed_schema
+  same-key d (inl is) = ap (λ (x : Schema). x.key_columns) is
+  same-key d (inr (inl is)) = ap (λ (x : Schema). x.key_columns) is
+  same-key d (inr (inr none)) = absurd none
+
   made-orderly : ((i : RowItem) → Has i items → IsSized (key_kinds s) (put_anew made i)) → IsOrderly published s.id (made_table made published s items)
   unfolding changed_schema
   made-orderly sized = record {
@@ -120,6 +126,7 @@ module _ (made published : Time) (s : Schema) (items : List RowItem) (begins : t
     dated = dated;
     ascend = ascend;
     begun = λ none. cc none;
+    keyed = λ d f first second. same-key d first ∙ sym (same-key f second);
   }
     where
       all : (is : List RowItem) (f : RowFact) → ((i : RowItem) → Has i is → IsSized (key_kinds s) (put_anew made i)) → Has f (map (put_anew made) is) → IsSized (key_kinds s) f

@@ -1,10 +1,10 @@
 -- A layer that is written over a ready disk: what the cluster and the disk are afterwards.
-use Rattle.std.proofs.Common.{◌≡◌, ◌≢◌, ◌⊎◌, inl, inr, ⊎_elim, ℕ, zero, suc, ◌<◌, ◌≤◌, true, false, true≢false, List, [], ◌∷◌, ◌++◌, map, length, Some, slice_get, refl, sym, ap, subst, ◌∙◌, arith, Contains, Result}
+use Rattle.std.proofs.Common.{◌≡◌, ◌≢◌, ◌⊎◌, inl, inr, ⊎_elim, ℕ, suc, ◌<◌, ◌≤◌, true, true≢false, List, [], ◌∷◌, ◌++◌, map, length, Some, slice_get, refl, sym, ap, subst, ◌∙◌, arith, Contains, Result}
 use Rattle.std.specs.Prelude.{IfErr}
 use Rattle.std.proofs.lemmas.List.{map-append}
 use Rattle.mvcc_keys.specs.Times.{Time, time_le, time_lt}
 use Rattle.list_laws.specs.Members.{Has}
-use Rattle.list_laws.proofs.Members.{has-append_cases, map-has}
+use Rattle.list_laws.proofs.Members.{has-append_cases, has-append_left, map-has}
 use Rattle.mvcc_keys.proofs.TimeOrder.{le-refl, le-trans}
 use Rattle.history_model.specs.Histories.{Table}
 use Rattle.history_model.specs.Layers as recorded
@@ -51,11 +51,6 @@ use Rattle.cluster_core.proofs.Others.{IsSameOf, final, same-of-other, still-gon
 got-end : {X : Type 0} (xs ys : List X) (y : X) → slice_get ((xs ++ y ∷ []) ++ ys) (length xs) ≡ Some y
 got-end [] ys y = refl
 got-end (x ∷ xs) ys y = got-end xs ys y
-
-pub has-left : {X : Type 0} (x : X) (xs ys : List X) → Has x xs → Has x (xs ++ ys)
-has-left x [] ys h = absurd h
-has-left x (z ∷ zs) ys (inl e) = inl e
-has-left x (z ∷ zs) ys (inr more) = inr (has-left x zs ys more)
 
 pub has-last : {X : Type 0} (x : X) (xs : List X) → Has x (xs ++ x ∷ [])
 has-last x [] = inl refl
@@ -129,7 +124,7 @@ module _ (c : ClusterState) (tables : List Table) (k : Keeps c tables) (b : HasB
       (got-push c.jobs (Backup r) place (Backup q) (ap (λ xs. slice_get xs place) (sym jobs-are) ∙ got))
 
   booked : (p : LayerName × Manifest) → IsBooked c.jobs tables p → IsBooked (with_job dated next).jobs tables p
-  booked p o = record { among = subst (Has (Backup (record_of p))) (sym jobs-are) (has-left _ c.jobs _ o.among); manifest = o.manifest; chunks = o.chunks; proper = o.proper }
+  booked p o = record { among = subst (Has (Backup (record_of p))) (sym jobs-are) (has-append_left _ c.jobs _ o.among); manifest = o.manifest; chunks = o.chunks; proper = o.proper }
 
   -- a job that failed keeps its number
   pub failed : StandsFor (with_job dated next) (record (machine_of c tables) { clock = clock; jobs = c.jobs ++ Backup r ∷ [] })
@@ -249,7 +244,7 @@ module _ (c : ClusterState) (tables : List Table) (k : Keeps c tables) (b : HasB
   }))
 
   none-written : written job ≡ 0
-  none-written = ap written j.is ∙ bare_count (described tables) false (plan_of tables made-record).floor end (plan_of tables made-record).tables
+  none-written = ap written j.is ∙ bare_count (described tables) extent.history (plan_of tables made-record).floor extent.end (plan_of tables made-record).tables
 
   -- its layer over the tables at the end
   pub final-of : objects_of to.history.tables made-record ≡ new-layer
@@ -298,7 +293,7 @@ module _ (c : ClusterState) (tables : List Table) (k : Keeps c tables) (b : HasB
         gone : (q : recorded.LayerRecord) → Has (Backup q) (c.jobs ++ Backup made-record ∷ []) → Has q (map record_of c.book.layers ++ made-record ∷ []) ⊎ IsGone (objects_of to.history.tables q) now.objects
         gone q has = ⊎_elim
             (λ (old : Has (Backup q) c.jobs). ⊎_elim
-            (λ (own : Has q (map record_of c.book.layers)). inl (has-left q (map record_of c.book.layers) (made-record ∷ []) own))
+            (λ (own : Has q (map record_of c.book.layers)). inl (has-append_left q (map record_of c.book.layers) (made-record ∷ []) own))
             (λ (was : IsGone (objects_of to.history.tables q) first.objects). inr (let p = has-place (Backup q) c.jobs old in still-gone (objects_of to.history.tables q) first.objects now.objects (other-same p.0 q p.1 p.2) was))
             (ready.kept.gone q old))
             (λ (new : Has (Backup q) (Backup made-record ∷ [])). inl (subst (λ (x : recorded.LayerRecord). Has x (map record_of c.book.layers ++ made-record ∷ [])) (sym (same-backup q made-record (one-only (Backup q) (Backup made-record) new))) (has-last made-record (map record_of c.book.layers))))

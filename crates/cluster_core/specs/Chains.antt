@@ -69,12 +69,18 @@ pub record IsChain (book : Book) (source : Src) (collection : List ℕ) (at : Op
   pub from : AreLayersFrom book source collection layers
   pub is : IsChainOf layers at x
 
--- one own layer, which ends at the time
-pub record IsOneLayer (book : Book) (x : Chain) : Type 0 where
-  pub layer : LayerName × Manifest
-  pub own : Has layer book.layers
-  pub layers : x.layers.items ≡ layer ∷ []
-  pub time : x.time ≡ layer.0.end
+-- a layer of the book, in the subdirectory of that time
+pub record IsOwnLayer (book : Book) (collection : List ℕ) (full : Time) (p : LayerName × Manifest) : Type 0 where
+  pub own : Has p book.layers
+  pub collection_is : p.0.collection ≡ collection
+  pub full_is : p.0.full ≡ full
+
+-- own layers of one subdirectory, whose records form a chain to the time
+pub record IsOwnChain (book : Book) (x : Chain) : Type 0 where
+  pub collection : List ℕ
+  pub full : Time
+  pub layers : AllByRecursion (IsOwnLayer book collection full) x.layers.items
+  pub chain : IsChainTo x.time (map record_of x.layers.items)
 
 -- its layers have none
 pub record IsNoChain (book : Book) (source : Src) (collection : List ℕ) (at : Option Time) (halt : Halt) : Type 0 where

@@ -10,9 +10,8 @@ ghost use Rattle.introduced_spans.specs.Spans.{plan_fault, threshold_of};
 ghost use Rattle.layer_manifest.specs.declared.manifest.TablePart.{TablePart};
 ghost use Rattle.layer_manifest.specs.Manifests.{IsProperScope, chunk_count};
 ghost use Rattle.layer_objects.specs.Objects.{by_id, name_of_record, plan_of, table_threshold};
-ghost use Rattle.script_grammar.specs.declared.backups.Src.TheVariants.{Latest};
 ghost use Rattle.machine_model.specs.Machine.{Machine};
-ghost use Rattle.machine_model.specs.Backups.{backup, backup_database, backup_latest, backup_tables, end_refusal, forget, full_backup, increment_after, is_between_times, is_subdirectory, last_end, layer_record, show_backups, source_among};
+ghost use Rattle.machine_model.specs.Backups.{backup, backup_database, backup_latest, backup_tables, end_refusal, forget, full_backup, increment_in, is_between_times, is_subdirectory, layer_record, show_backups, source_among};
 ghost use Rattle.cluster_core.specs.ClusterView.{record_of};
 ghost use Rattle.layer_model.specs.Names.{IsLayerName, IsOwnName};
 ghost use Rattle.cluster_core.specs.Standing.{Does, HaltCounts, HaltHasCause, Keeps, MayStep, RefusedBy, Runs, StandsFor, machine_of};
@@ -32,7 +31,7 @@ use introduced_spans::{LayerPlan, Threshold, plan_layer};
 use layer_manifest::{Manifest, TablePart, chunk_count, entry_count};
 use layer_model::LayerName;
 use machine_model::Extent;
-use mvcc_keys::{Hlc, Items, Memory, latest, time_or_zero};
+use mvcc_keys::{Hlc, Items, Memory};
 use outside_world::Disk;
 use reply_texts::{Answer, Refusal};
 use script_grammar::Src;
@@ -103,20 +102,12 @@ fn is_counted(part: &TablePart)
 
 /// The same of each table of a manifest. It is called for the proof alone, which has to know that
 /// the manifest can be spelled.
-fn are_counted(m: &Manifest)
-    ensures { AllByRecursion (λ (part : TablePart). length part.descriptors < 2 ^ 64) m.now.tables }
+fn are_counted(parts: &[TablePart])
+    ensures { AllByRecursion (λ (part : TablePart). length part.descriptors < 2 ^ 64) parts.now }
 {
-    for part in m.tables.as_slice() {
+    for part in parts {
         is_counted(part);
     }
-}
-
-/// The greatest end of some layers, or zero.
-fn last_end(alloc: Global, layers: &[(LayerName, Manifest)]) -> Result<Hlc, Memory>
-    ensures { IfOk result (λ t. t ≡ last_end (map record_of layers.now)) }
-{
-    let ends: Vec<Hlc> = layers.iter().map(|entry| entry.0.end).collect(alloc)?;
-    Ok(time_or_zero(latest(&ends)))
 }
 
 // ---- layers of a source
@@ -234,7 +225,7 @@ impl Cluster {
         let name = self.layer_name(&extent)?;
         let Extent { history, scope, .. } = extent;
         let job = BackupJob::start(self.alloc, name, history, scope, plan, &self.catalog)?;
-        are_counted(job.manifest());
+        are_counted(job.manifest().tables.as_slice());
         Ok(job)
     }
 
@@ -393,31 +384,31 @@ impl Cluster {
         self.back_up_full(disk, collection, scope, history, (end, clock))
     }
 
-    /// Makes a layer after those of a subdirectory.
-    fn back_up_after<D: Disk>(
+    /// Makes a layer in a subdirectory, after those that are there.
+    fn back_up_in<D: Disk>(
         &mut self,
         disk: &mut D,
         collection: &Name,
-        mut layers: Vec<(LayerName, Manifest)>,
+        subdirectory: &(Name, Hlc),
         history: bool,
         times: (Hlc, Hlc),
     ) -> Result<Answer, Halt>
-        requires layers { AreLayersFrom self.old.book Latest collection.now layers.items }
         requires within { (time_le times.0 times.1 ≡ true) × (time_le self.old.clock times.1 ≡ true) }
         requires room { length self.old.jobs < self.old.steps }
         requires stands { (m : Machine) × StandsFor self.old m }
-        ensures step { (m to : Machine) → MayStep self.old m (increment_after m collection.now (map record_of layers.items) history times.0 times.1) to (D.view disk.old)
-            → Runs self.new (increment_after m collection.now (map record_of layers.items) history times.0 times.1) to result (D.view disk.old) (D.view disk.new) }
+        ensures step { (m to : Machine) → MayStep self.old m (increment_in m collection.now subdirectory.now history times.0 times.1) to (D.view disk.old)
+            → Runs self.new (increment_in m collection.now subdirectory.now history times.0 times.1) to result (D.view disk.old) (D.view disk.new) }
         ensures stays { StandsStill result self.new }
         ensures changes { ChangesOnly (IsOwnName self.old.name) (IsOwnName self.old.name) (D.view disk.old) (D.view disk.new) }
         ensures steps { self.new.steps ≡ self.old.steps }
         ensures cause { HaltHasCause (D.view disk.old).faults (D.view disk.new).faults result }
     {
         let (end, clock) = times;
-        let last = last_end(self.alloc, &layers)?;
-        match layers.pop() {
+        let (cluster, full) = subdirectory;
+        let last = self.book.last_end(collection, cluster, *full);
+        match self.book.first(collection, cluster, *full) {
             Some((layer, m)) => {
-                let Manifest { scope, .. } = m;
+                let Manifest { scope, .. } = m.copy(self.alloc)?;
                 let extent = Extent {
                     collection: collection.copy(self.alloc)?,
                     full: layer.full,
@@ -449,8 +440,13 @@ impl Cluster {
         ensures cause { HaltHasCause (D.view disk.old).faults (D.view disk.new).faults result }
     {
         let (end, clock) = end_of(self.clock, at)?;
-        let layers = self.layers_from(&Src::Latest, collection)?;
-        self.back_up_after(disk, collection, layers, history, (end, clock))
+        let subdirectories = self.book.subdirectories(collection, &[])?;
+        match source_among(&Src::Latest, &subdirectories) {
+            Some(subdirectory) => {
+                self.back_up_in(disk, collection, subdirectory, history, (end, clock))
+            }
+            None => Err(Halt::Refused(Refusal::NoSuchBackup)),
+        }
     }
 
     #[tactic(auto, unfolding(machine_model::specs::Backups::show_backups))]

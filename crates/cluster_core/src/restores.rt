@@ -1,9 +1,9 @@
 //! The command that restores a database.
-ghost use Rattle.std.specs.Prelude.{◌≡◌, ◌∷◌, ◌++◌, ◌<◌, ◌≤◌, ◌+◌, ◌^◌, ℕ, [], true, None, Some, List, length, map, unwrap_or, IfErr, IfOk, OnOk};
+ghost use Rattle.std.specs.Prelude.{◌≡◌, ◌∷◌, ◌++◌, ◌<◌, ◌≤◌, ◌+◌, ◌^◌, [], true, None, Some, List, length, map, unwrap_or, IfErr, IfOk, OnOk};
 ghost use Rattle.std.specs.List.{AllByRecursion, range_with_len};
 ghost use Rattle.mvcc_keys.specs.Times.{IsTime, next};
 ghost use Rattle.table_descriptors.specs.declared.scopes.Scope.{Scope};
-ghost use Rattle.table_descriptors.specs.Descriptors.{IsProperSchema, Schema};
+ghost use Rattle.table_descriptors.specs.Descriptors.{Schema};
 ghost use Rattle.history_model.specs.Histories.{Table};
 ghost use Rattle.history_model.specs.Layers as records;
 ghost use Rattle.outside_world.specs.Disk.{OnlyReads, Tells};
@@ -13,7 +13,7 @@ ghost use Rattle.layer_manifest.specs.Manifests.{IsProperManifest};
 ghost use Rattle.layer_chains.specs.Chains.{IsShown};
 ghost use Rattle.stored_chunks.specs.Parts.{AreProperLayers};
 ghost use Rattle.history_model.specs.Rows.{RowItem};
-ghost use Rattle.schema_catalog.specs.Catalogs.{database_fault, history_of, next_id};
+ghost use Rattle.schema_catalog.specs.Catalogs.{database_fault, next_id};
 ghost use Rattle.id_remap.specs.declared.targets.Target.TheVariants as target;
 ghost use Rattle.key_rewriter.specs.Ids.{are_ascending};
 ghost use Rattle.id_remap.specs.Remapping.{ids_of, new_id, remapped_schema};
@@ -24,7 +24,7 @@ ghost use Rattle.cluster_core.specs.ClusterView.{record_of};
 ghost use Rattle.layer_model.specs.Names.{IsOwnName};
 ghost use Rattle.cluster_core.specs.Standing.{HaltHasCause, Keeps, MayStep, RefusedBy, Runs, StandsFor};
 ghost use Rattle.cluster_core.specs.Backing.{StandsStill};
-ghost use Rattle.cluster_core.specs.Chains.{AreTypedRows, IsOneLayer, IsStandingChain, entries_in, stored_rows};
+ghost use Rattle.cluster_core.specs.Chains.{AreTypedRows, IsOwnChain, IsStandingChain, entries_in, stored_rows};
 ghost use Rattle.cluster_core.specs.Restoring.{AreRowsOfEach, HasRoomFor, count_rows, entries_of, made_tables};
 ghost use Rattle.cluster_core.specs.Restores.{AreTested, EndsBy, IsFullTwice, IsHard, IsPlanned, IsTested, refusal_of_chosen, restored_by, room_test, shown_tables, with_restore};
 
@@ -84,23 +84,11 @@ fn name_or<'a>(name: &'a Option<Name>, other: &'a Name) -> &'a Name
     }
 }
 
-/// Each of a table's descriptors is a proper one.
-fn proper_history(descriptors: &[Descriptor])
-    ensures { AllByRecursion IsProperSchema descriptors.now }
+/// A fact for whoever holds a catalog: ids have 32 bits, so its tables aren't too many.
+fn few_tables(catalog: &Catalog)
+    ensures { 100 + length catalog.now.tables ≤ 2 ^ 32 }
 {
-    for d in descriptors {
-        d.proper();
-    }
-}
-
-/// Each descriptor is.
-fn proper_catalog(catalog: &Catalog)
-    ensures proper { (id : ℕ) → 100 ≤ id → id < next_id catalog.now → AllByRecursion IsProperSchema (history_of catalog.now id) }
-    ensures few { 100 + length catalog.now.tables ≤ 2 ^ 32 }
-{
-    for id in 100..catalog.next_id() {
-        proper_history(catalog.history(id));
-    }
+    let _ = catalog.next_id();
 }
 
 /// Whether entries may be put anew, under the id of a table.
@@ -416,7 +404,7 @@ impl Cluster {
         requires published { next times.0 ≡ Some times.1 }
         requires time { IsTime times.0 }
         requires room { length self.old.jobs < self.old.steps }
-        requires one { IsOneLayer self.old.book chain.now }
+        requires own { IsOwnChain self.old.book chain.now }
         requires last { last_of chain.now.layers.items ≡ Some layer.now }
         requires stands { (m : Machine) × StandsFor self.old m }
         ensures step { (m to : Machine) → MayStep self.old m (restore_chain m database.now new.now chain.now.time times.0 times.1 (map record_of chain.now.layers.items)) to (D.view disk.old)
@@ -427,7 +415,8 @@ impl Cluster {
         ensures cause { HaltHasCause (D.view disk.old).faults (D.view disk.new).faults result }
     {
         let (made, published) = times;
-        proper_catalog(&self.catalog);
+        few_tables(&self.catalog);
+        is_time(chain.time);
         match self.read_restore(disk, chain, &layer.1, database, new, made) {
             Ok(p) => self.finish_restore(chain, new, made, published, p),
             // by cases and not by `?`, which would make the halt anew

@@ -1,6 +1,6 @@
 -- Layers by subdirectory: which subdirectories a collection has, and the layers of one, in order. A list may hold more than the layers' names: what they are is told by `name`.
-use Rattle.std.specs.Prelude.{ℕ, Bool, ◌&&◌, ◌==◌, if◌then◌else◌, List, map, filter}
-use Rattle.std.specs.List.{fold}
+use Rattle.std.specs.Prelude.{ℕ, Bool, ◌&&◌, if◌then◌else◌, List, Option, map, filter}
+use Rattle.std.specs.List.{find, fold}
 use Rattle.std.specs.Str.{bytes_eq}
 use Rattle.std.specs.declared.cmp.Ordering.{Ordering}
 use Rattle.std.specs.declared.cmp.Ordering.TheVariants.{Less, Equal, Greater}
@@ -68,3 +68,17 @@ full_times name collection xs = map (λ x. (name x).full) (filter (λ x. is_of c
 -- the greatest end time of a full backup that a layer of the collection belongs to, or zero
 unfoldable pub last_full_of : {X : Type 0} → (X → LayerName) → List ℕ → List X → Time
 last_full_of name collection xs = greatest (full_times name collection xs)
+
+-- ---- where a subdirectory goes on
+
+-- the first layer of the list that lies in a subdirectory
+abbrev pub first_of : {X : Type 0} → (X → LayerName) → List ℕ → List ℕ → Time → List X → Option X
+first_of name collection cluster full xs = find (λ x. is_in collection cluster full (name x)) xs
+
+-- the ends of the layers of a subdirectory
+abbrev pub end_times : {X : Type 0} → (X → LayerName) → List ℕ → List ℕ → Time → List X → List Time
+end_times name collection cluster full xs = map (λ x. (name x).end) (filter (λ x. is_in collection cluster full (name x)) xs)
+
+-- the greatest end of a layer of the subdirectory, or zero
+unfoldable pub last_end_of : {X : Type 0} → (X → LayerName) → List ℕ → List ℕ → Time → List X → Time
+last_end_of name collection cluster full xs = greatest (end_times name collection cluster full xs)

@@ -1,10 +1,11 @@
 //! The book of the own layers.
 ghost use Rattle.std.specs.Prelude.{◌≡◌, ◌++◌, filter, not, IfOk, OnOk, OnErr};
 ghost use Rattle.layer_book.specs.Books.{name_in, no_layers, same_name, with_layer, without_layer};
-ghost use Rattle.layer_book.specs.Subdirectories.{last_full_of, layers_of, subdirectories_of};
+ghost use Rattle.layer_book.specs.Subdirectories.{first_of, last_end_of, last_full_of, layers_of, subdirectories_of};
+ghost use Rattle.std.specs.Option.{option_copied};
 
 use crate::listing::{add_layers, add_subdirectories};
-use crate::order::{is_same_name, later_full};
+use crate::order::{is_in, is_same_name, later_end, later_full};
 use layer_manifest::Manifest;
 use layer_model::LayerName;
 use mvcc_keys::{Hlc, Memory};
@@ -40,6 +41,35 @@ fn last_full_of(layers: &[(LayerName, Manifest)], collection: &Name) -> Hlc
         last = later_full(last, collection, &entry.0);
     }
     last
+}
+
+#[tactic(auto, unfolding(crate::specs::Subdirectories::last_end_of))]
+fn last_end_of(
+    layers: &[(LayerName, Manifest)],
+    collection: &Name,
+    cluster: &Name,
+    full: Hlc,
+) -> Hlc
+    ensures { result ≡ last_end_of name_in collection.now cluster.now full layers.now }
+{
+    let mut last = Hlc::zero();
+    for entry in layers {
+        last = later_end(last, collection, cluster, full, &entry.0);
+    }
+    last
+}
+
+fn first_of<'a>(
+    layers: &'a [(LayerName, Manifest)],
+    collection: &Name,
+    cluster: &Name,
+    full: Hlc,
+) -> Option<&'a (LayerName, Manifest)>
+    ensures { option_copied result ≡ first_of name_in collection.now cluster.now full layers.now }
+{
+    layers
+        .iter()
+        .find(|entry| is_in(collection, cluster, full, &entry.0))
 }
 
 /// Keeps the layers of other names.
@@ -88,6 +118,25 @@ impl LayerBook {
         ensures { result ≡ last_full_of name_in collection.now self.now.layers }
     {
         last_full_of(self.layers.as_slice(), collection)
+    }
+
+    /// The first of the own layers of a subdirectory.
+    pub fn first(
+        &self,
+        collection: &Name,
+        cluster: &Name,
+        full: Hlc,
+    ) -> Option<&(LayerName, Manifest)>
+        ensures { option_copied result ≡ first_of name_in collection.now cluster.now full self.now.layers }
+    {
+        first_of(self.layers.as_slice(), collection, cluster, full)
+    }
+
+    /// The greatest end of the own layers of a subdirectory, or zero.
+    pub fn last_end(&self, collection: &Name, cluster: &Name, full: Hlc) -> Hlc
+        ensures { result ≡ last_end_of name_in collection.now cluster.now full self.now.layers }
+    {
+        last_end_of(self.layers.as_slice(), collection, cluster, full)
     }
 
     /// The subdirectories of a collection that have an own or a foreign layer, by time, then by

@@ -16,8 +16,8 @@ pub fn last_full_is_greatest<X>()
     ensures { LastFullIsGreatest X }
 {}
 
-/// A law: of a list that is mapped, the layers are those before, mapped; subdirectories and the
-/// last full time are those before.
+/// A law: of a list that is mapped, the layers are those before, mapped, and so is the first layer
+/// of a subdirectory; subdirectories, the last full time and the last end are those before.
 pub fn maps_carry<X, Y>()
     ensures { MapsCarry X Y }
 {}

@@ -51,6 +51,23 @@ fn later_time(s: Hlc, t: Hlc) -> Hlc
     if s < t { t } else { s }
 }
 
+/// The greater of a time and the end of a layer, if that is in the subdirectory.
+pub(crate) fn later_end(
+    last: Hlc,
+    collection: &Name,
+    cluster: &Name,
+    full: Hlc,
+    layer: &LayerName,
+) -> Hlc
+    ensures { result ≡ (if is_in collection.now cluster.now full layer.now then later_time last layer.now.end else last) }
+{
+    if is_in(collection, cluster, full, layer) {
+        later_time(last, layer.end)
+    } else {
+        last
+    }
+}
+
 /// The greater of a time and the full time of a layer, if that is in the collection.
 pub(crate) fn later_full(last: Hlc, collection: &Name, layer: &LayerName) -> Hlc
     ensures { result ≡ (if is_of collection.now layer.now then later_time last layer.now.full else last) }

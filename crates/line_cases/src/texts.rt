@@ -1,4 +1,5 @@
-//! Commands as texts: the name of the variant and its fields in words.
+//! Commands as texts: the name of the variant and its fields in words. Of a field that is true or
+//! false its name stands there, or nothing.
 use command_lang::{Command, Src, Tbl};
 use mvcc_keys::{Hlc, Memory};
 use row_codec::{Datum, Kind, Row};
@@ -104,6 +105,13 @@ fn put_time(time: &Option<Hlc>, out: &mut String) -> Result<(), Memory> {
     }
 }
 
+fn put_history(history: bool, out: &mut String) -> Result<(), Memory> {
+    if history {
+        out.push_str(" history")?;
+    }
+    Ok(())
+}
+
 fn put_source(source: &Src, out: &mut String) -> Result<(), Memory> {
     match source {
         Src::Latest => Ok(out.push_str(" latest")?),
@@ -182,30 +190,39 @@ fn put_gc(table: &Tbl, before: Hlc, out: &mut String) -> Result<(), Memory> {
     Ok(write!(out, " before {before}")?)
 }
 
-fn put_destination(collection: &Name, at: &Option<Hlc>, out: &mut String) -> Result<(), Memory> {
-    put_word(" into", collection, out)?;
-    put_time(at, out)
+fn put_destination(
+    word: &str,
+    collection: &Name,
+    at: &Option<Hlc>,
+    history: bool,
+    out: &mut String,
+) -> Result<(), Memory> {
+    put_word(word, collection, out)?;
+    put_time(at, out)?;
+    put_history(history, out)
 }
 
 fn put_backup_database(
     database: &Name,
     collection: &Name,
     at: &Option<Hlc>,
+    history: bool,
     out: &mut String,
 ) -> Result<(), Memory> {
     put_word("BackupDatabase", database, out)?;
-    put_destination(collection, at, out)
+    put_destination(" into", collection, at, history, out)
 }
 
 fn put_backup_tables(
     tables: &[Tbl],
     collection: &Name,
     at: &Option<Hlc>,
+    history: bool,
     out: &mut String,
 ) -> Result<(), Memory> {
     out.push_str("BackupTables")?;
     put_tables(tables, out)?;
-    put_destination(collection, at, out)
+    put_destination(" into", collection, at, history, out)
 }
 
 fn put_backup_source(source: &Src, collection: &Name, out: &mut String) -> Result<(), Memory> {
@@ -270,12 +287,19 @@ pub fn put_command(command: &Command, out: &mut String) -> Result<(), Memory> {
             database,
             collection,
             at,
-        } => put_backup_database(database, collection, at, out),
+            history,
+        } => put_backup_database(database, collection, at, *history, out),
         Command::BackupTables {
             tables,
             collection,
             at,
-        } => put_backup_tables(tables.as_slice(), collection, at, out),
+            history,
+        } => put_backup_tables(tables.as_slice(), collection, at, *history, out),
+        Command::BackupLatest {
+            collection,
+            at,
+            history,
+        } => put_destination("BackupLatest in", collection, at, *history, out),
         Command::RestoreDatabase {
             database,
             source,

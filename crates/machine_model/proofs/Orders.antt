@@ -1,5 +1,5 @@
 -- Whatever the command, the machine after it is in order again.
-use Rattle.std.proofs.Common.{◌≡◌, ◌≢◌, ◌-◌, inl, inr, ⊎_elim, ℕ, Bool, true, false, not, List, [], ◌∷◌, ◌++◌, map, length, eqb, refl, sym, subst, ◌∙◌, arith, ◌&&◌}
+use Rattle.std.proofs.Common.{◌≡◌, ◌≢◌, inl, inr, ⊎_elim, ℕ, Bool, true, false, not, List, [], ◌∷◌, ◌++◌, map, length, eqb, refl, sym, subst, ◌∙◌, arith, ◌&&◌}
 use Rattle.std.specs.Prelude.{Option, Some, None, slice_get, slice_set, unwrap_or}
 use Rattle.std.specs.List.{find}
 use Rattle.std.proofs.lemmas.Bool.{cases_Bool}
@@ -34,12 +34,14 @@ use Rattle.id_remap.specs.declared.targets.Target.TheVariants as target
 use Rattle.id_remap.specs.Remapping.{new_ids, remapped_schema}
 use Rattle.script_grammar.specs.declared.backups.Src.{Src}
 use Rattle.script_grammar.specs.declared.backups.Src.TheVariants.{Latest}
+use Rattle.layer_objects.specs.Objects.{name_of_record}
+use Rattle.layer_book.specs.Subdirectories.{first_of}
 use Rattle.machine_model.specs.declared.extents.Extent.{Extent}
 use Rattle.machine_model.specs.Machine.{Backup, Job, Restore, Machine, Stepped, answered, catalog_of, first_refusal, refusal_if, unless_refused, with_time, drawing, with_found, for_table}
 use Rattle.machine_model.specs.Refusals.{catalog_refusal}
 use Rattle.machine_model.specs.Tables.{tick, create_database, create_table, new_table, with_new_table, alter, drop_table, described, with_descriptor}
 use Rattle.machine_model.specs.TableRows.{adding, upsert, delete, delete_range, select, select_at, collect, raised, with_threshold, extended}
-use Rattle.machine_model.specs.Backups.{ending, layer_record, backup, end_refusal, plan_refusal, full_extent, last_full, last_end, next_extent, with_backup, absent_refusal, backup_database, ids_named, backup_latest, backup_tables, show_backups, source_among, own_subdirectories, layers_in, with_source, is_between_times, forgetting, forget}
+use Rattle.machine_model.specs.Backups.{ending, layer_record, backup, end_refusal, plan_refusal, full_extent, last_full, last_end_in, next_extent, with_backup, absent_refusal, backup_database, ids_named, backup_latest, backup_tables, show_backups, source_among, own_subdirectories, layers_in, with_source, is_between_times, forgetting, forget}
 use Rattle.machine_model.specs.Restores.{links_of, time_of, layers_at, with_cover, last_of, chosen_tables, restored_table, restore_chosen, restore_chain, restore_database, with_restored}
 use Rattle.machine_model.specs.Step.{step}
 use Rattle.machine_model.specs.Orders.{AreBackupsUpTo, AreTablesUpTo, IsInOrder, IsLayerUpTo, IsTableUpTo, StepsKeepOrder}
@@ -284,8 +286,8 @@ module _ (m : Machine) (o : IsInOrder m) where
 
   latest-order : (collection : List ℕ) (at : Option Time) (history : Bool) → IsInOrder (backup_latest m collection at history).machine
   unfolding backup_latest
-  latest-order collection at history = ending-order at _ (λ end clock le over. source-order Latest collection _ (λ s. let rs = layers_in m collection s in
-      found-order m NoSuchBackup (slice_get rs (length rs - 1)) _ o (λ r e. layer-order [] (next_extent collection r rs history end) (last_end rs) clock (le-refl (last_end rs)) le over)))
+  latest-order collection at history = ending-order at _ (λ end clock le over. source-order Latest collection _ (λ s.
+      found-order m NoSuchBackup (first_of name_of_record collection s.0 s.1 m.layers) _ o (λ r e. layer-order [] (next_extent collection r (last_end_in m collection s) history end) (last_end_in m collection s) clock (le-refl (last_end_in m collection s)) le over)))
 
   forget-order : (source : Src) (collection : List ℕ) (start end : Time) → IsInOrder (forget m source collection start end).machine
   unfolding forget

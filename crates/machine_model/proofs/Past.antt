@@ -1,5 +1,5 @@
 -- No command changes what was true up to the clock.
-use Rattle.std.proofs.Common.{◌≡◌, ◌≢◌, ◌+◌, ◌-◌, nat_lt, inl, inr, ⊎_elim, ℕ, ◌<◌, length, Bool, true, false, not, List, [], ◌∷◌, ◌++◌, map, eqb, refl, sym, ap, subst, ◌∙◌, arith}
+use Rattle.std.proofs.Common.{◌≡◌, ◌≢◌, ◌+◌, nat_lt, inl, inr, ⊎_elim, ℕ, ◌<◌, length, Bool, true, false, not, List, [], ◌∷◌, ◌++◌, map, eqb, refl, sym, ap, subst, ◌∙◌, arith}
 use Rattle.std.specs.Prelude.{Option, Some, None, option_map, option_and_then, unwrap_or, slice_get, slice_set}
 use Rattle.std.specs.List.{find}
 use Rattle.std.proofs.lemmas.Bool.{cases_Bool}
@@ -29,11 +29,12 @@ use Rattle.reply_texts.specs.declared.refusals.Refusal.TheVariants.{TickBack, No
 use Rattle.reply_texts.specs.declared.answers.Answer.{Answer}
 use Rattle.reply_texts.specs.declared.answers.Answer.TheVariants.{ClockSet, RangeDeleted}
 use Rattle.command_lang.specs.declared.command.Command.TheVariants.{Cluster, Tick, CreateDatabase, CreateTable, AddColumn, DropColumn, RenameColumn, RenameTable, DropTable, Upsert, Delete, DeleteRange, Select, Gc, BackupDatabase, BackupTables, BackupLatest, RestoreDatabase, Forget, ShowBackups}
+use Rattle.layer_book.specs.Subdirectories.{first_of}
 use Rattle.machine_model.specs.declared.extents.Extent.{Extent}
 use Rattle.machine_model.specs.Machine.{Backup, Restore, Machine, Stepped, answered, catalog_of, first_refusal, refusal_if, unless_refused, with_time, drawing, with_found, for_table}
 use Rattle.machine_model.specs.Tables.{tick, create_database, create_table, new_table, with_new_table, alter, drop_table, described, with_descriptor}
 use Rattle.machine_model.specs.TableRows.{adding, upsert, delete, delete_range, select, select_at, collect, raised, with_threshold, extended, with_facts}
-use Rattle.machine_model.specs.Backups.{ending, layer_record, backup, full_extent, last_full, last_end, next_extent, absent_refusal, backup_database, ids_named, backup_latest, backup_tables, show_backups, source_among, own_subdirectories, layers_in, with_source, is_between_times, forgetting, forget}
+use Rattle.machine_model.specs.Backups.{ending, layer_record, backup, full_extent, last_full, last_end_in, next_extent, absent_refusal, backup_database, ids_named, backup_latest, backup_tables, show_backups, source_among, own_subdirectories, layers_in, with_source, is_between_times, forgetting, forget}
 use Rattle.machine_model.specs.Restores.{links_of, time_of, layers_at, with_cover, last_of, chosen_tables, restored_table, restore_chosen, restore_chain, restore_database}
 use Rattle.machine_model.specs.Step.{step}
 use Rattle.machine_model.specs.Refusals.{catalog_refusal}
@@ -306,8 +307,8 @@ source-later m source collection change later = finding-later m NoSuchBackup (so
 
 latest-later : (m : Machine) (collection : List ℕ) (at : Option Time) (history : Bool) → IsLater m (backup_latest m collection at history).machine
 unfolding backup_latest
-latest-later m collection at history = ending-later m at _ (λ end clock le. source-later m Latest collection _ (λ s. let rs = layers_in m collection s in
-    finding-later m NoSuchBackup (slice_get rs (length rs - 1)) _ (λ r. layer-later m [] (next_extent collection r rs history end) (last_end rs) clock le)))
+latest-later m collection at history = ending-later m at _ (λ end clock le. source-later m Latest collection _ (λ s.
+    finding-later m NoSuchBackup (first_of name_of_record collection s.0 s.1 m.layers) _ (λ r. layer-later m [] (next_extent collection r (last_end_in m collection s) history end) (last_end_in m collection s) clock le)))
 
 show-later : (m : Machine) (collection : List ℕ) → IsLater m (show_backups m collection).machine
 unfolding show_backups

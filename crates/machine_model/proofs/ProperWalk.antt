@@ -34,13 +34,14 @@ use Rattle.script_grammar.specs.declared.backups.Src.{Src}
 use Rattle.script_grammar.specs.declared.backups.Src.TheVariants.{Latest}
 use Rattle.table_descriptors.specs.declared.scopes.Scope.TheVariants.{Database, Tables}
 use Rattle.command_lang.specs.Typed.{AreColumns, AreValues, IsKeyOfColumns, IsName, IsTableName}
+use Rattle.layer_book.specs.Subdirectories.{first_of}
 use Rattle.machine_model.specs.declared.extents.Extent.{Extent}
 use Rattle.machine_model.specs.Machine.{Machine, Stepped, answered, catalog_of, first_refusal, for_table, judged, offline_refusal}
 use Rattle.machine_model.specs.Refusals.{catalog_refusal, rows_refusal}
 use Rattle.machine_model.specs.Tables.{alter, create_database, create_table, described, drop_table, new_table, tick, with_descriptor, with_new_table}
 use Rattle.machine_model.specs.TableRows.{adding, collected_refusal, future_refusal, rows_at, collect, delete, delete_range, extended, raised, room_refusal, select, select_at, upsert}
-use Rattle.layer_objects.specs.Objects.{manifest_of}
-use Rattle.machine_model.specs.Backups.{absent_refusal, backup, backup_done, end_refusal, plan_refusal, backup_database, backup_latest, backup_tables, ending, forget, full_extent, ids_named, is_between_times, last_end, last_full, layer_record, layers_in, next_extent, own_subdirectories, source_among, with_backup, with_source}
+use Rattle.layer_objects.specs.Objects.{manifest_of, name_of_record}
+use Rattle.machine_model.specs.Backups.{absent_refusal, backup, backup_done, end_refusal, plan_refusal, backup_database, backup_latest, backup_tables, ending, forget, full_extent, ids_named, is_between_times, last_end_in, last_full, layer_record, layers_in, next_extent, own_subdirectories, source_among, with_backup, with_source}
 use Rattle.machine_model.specs.Orders.{IsInOrder}
 use Rattle.machine_model.specs.Proper.{IsProperTable, NoTwo, ShareName}
 use Rattle.machine_model.specs.ProperMachines.{IsTableWithin}
@@ -244,8 +245,8 @@ module _ (n : ℕ) (m : Machine) (small : n < 2 ^ 32 - 2) (p : HasProper n m) (o
 
   pub latest-proper : (collection : List ℕ) (at : Option Time) (history : Bool) → Keeps n m p (backup_latest m collection at history)
   unfolding backup_latest
-  latest-proper collection at history = ending-proper at _ (λ end clock le time. source-proper Latest collection _ (λ s. let rs = layers_in m collection s in
-      found-keeps n m p NoSuchBackup (slice_get rs (length rs - 1)) _ (λ r e. layer-proper [] (next_extent collection r rs history end) (last_end rs) clock le time)))
+  latest-proper collection at history = ending-proper at _ (λ end clock le time. source-proper Latest collection _ (λ s.
+      found-keeps n m p NoSuchBackup (first_of name_of_record collection s.0 s.1 m.layers) _ (λ r e. layer-proper [] (next_extent collection r (last_end_in m collection s) history end) (last_end_in m collection s) clock le time)))
 
   pub forget-proper : (source : Src) (collection : List ℕ) (start end : Time) → Keeps n m p (forget m source collection start end)
   unfolding forget

@@ -1,8 +1,8 @@
 -- The commands on backups, one definition each. The job of a backup is run whole.
-use Rattle.std.specs.Prelude.{ℕ, ◌+◌, ◌-◌, Bool, not, ◌&&◌, List, [], ◌∷◌, ◌++◌, length, filter, map, slice_get, Option, Some, None, option_and_then}
+use Rattle.std.specs.Prelude.{ℕ, ◌+◌, ◌-◌, Bool, not, ◌&&◌, List, [], ◌∷◌, ◌++◌, length, filter, slice_get, Option, Some, None, option_and_then}
 use Rattle.std.specs.List.{find, list_any}
 use Rattle.std.specs.Str.{bytes_eq}
-use Rattle.mvcc_keys.specs.Times.{Time, latest, or_zero, zero_time, time_eq, time_le}
+use Rattle.mvcc_keys.specs.Times.{Time, zero_time, time_eq, time_le}
 use Rattle.table_descriptors.specs.declared.scopes.Scope.{Scope}
 use Rattle.table_descriptors.specs.declared.scopes.Scope.TheVariants.{Database, Tables}
 use Rattle.table_descriptors.specs.Descriptors.{Schema}
@@ -16,7 +16,7 @@ use Rattle.layer_manifest.specs.declared.manifest.Manifest.{Manifest}
 use Rattle.layer_manifest.specs.Manifests.{chunk_count, entry_count}
 use Rattle.layer_objects.specs.Objects.{by_id, manifest_of, name_of_record, table_threshold}
 use Rattle.layer_book.specs.Books.{same_name}
-use Rattle.layer_book.specs.Subdirectories.{last_full_of, layers_of, subdirectories_of}
+use Rattle.layer_book.specs.Subdirectories.{first_of, last_end_of, last_full_of, layers_of, subdirectories_of}
 use Rattle.script_grammar.specs.declared.backups.Src.{Src}
 use Rattle.script_grammar.specs.declared.backups.Src.TheVariants.{Latest, Named}
 use Rattle.reply_texts.specs.declared.refusals.Refusal.{Refusal}
@@ -152,21 +152,21 @@ layers_in m collection s = layers_of name_of_record collection s.0 s.1 m.layers
 
 -- ---- BACKUP INTO LATEST
 
--- the greatest end of some layers, or zero
-abbrev pub last_end : List LayerRecord → Time
-last_end rs = or_zero (latest (map (λ r. r.end) rs))
+-- after the layers of a subdirectory, of which this is one and the last end is this: all of them have one scope
+abbrev pub next_extent : List ℕ → LayerRecord → Time → Bool → Time → Extent
+next_extent collection r last history end = record { collection = collection; full = r.full; start = last; end = end; history = history; scope = r.scope }
 
--- after the layers of a subdirectory, of which this is one: all of them have one scope
-abbrev pub next_extent : List ℕ → LayerRecord → List LayerRecord → Bool → Time → Extent
-next_extent collection r rs history end = record { collection = collection; full = r.full; start = last_end rs; end = end; history = history; scope = r.scope }
+-- the greatest end of the layers of a subdirectory, or zero
+abbrev pub last_end_in : Machine → List ℕ → List ℕ × Time → Time
+last_end_in m collection s = last_end_of name_of_record collection s.0 s.1 m.layers
 
--- an increment after some layers, of the scope of the last one: a subdirectory has at least one
-abbrev pub increment_after : Machine → List ℕ → List LayerRecord → Bool → Time → Time → Stepped
-increment_after m collection rs history end clock = with_found m NoSuchBackup (slice_get rs (length rs - 1)) (λ r. backup m [] (next_extent collection r rs history end) (last_end rs) clock)
+-- an increment in a subdirectory, of the scope of its first layer: it has at least one
+abbrev pub increment_in : Machine → List ℕ → List ℕ × Time → Bool → Time → Time → Stepped
+increment_in m collection s history end clock = with_found m NoSuchBackup (first_of name_of_record collection s.0 s.1 m.layers) (λ r. backup m [] (next_extent collection r (last_end_in m collection s) history end) (last_end_in m collection s) clock)
 
 -- BACKUP INTO LATEST
 unfoldable pub backup_latest : Machine → List ℕ → Option Time → Bool → Stepped
-backup_latest m collection at history = ending m at (λ end clock. with_source m Latest collection (λ s. increment_after m collection (layers_in m collection s) history end clock))
+backup_latest m collection at history = ending m at (λ end clock. with_source m Latest collection (λ s. increment_in m collection s history end clock))
 
 -- ---- FORGET
 

@@ -5,8 +5,7 @@ use Rattle.cluster_core.proofs.Backing.{both-passed, fault-is, first-refused, if
 use Rattle.cluster_core.proofs.cluster.Cluster.layer_plan.Goals as goal
 
 pub returns-in_err-check_end-clause-refused : goal.returns-in_err-check_end-clause-refused
-returns-in_err-check_end-clause-refused c = rw (← c.self.view_is) (if-err _ c.from_residual.result c.in_err-check_end.field-0.0 c.from_residual.ensures.1 (λ tables k.
-    first-refused c.in_err-check_end.field-0.0 _ _ c.in_err-check_end.ensures.refused))
+returns-in_err-check_end-clause-refused c = if-err _ c.from_residual.result c.in_err-check_end.field-0.0 c.from_residual.ensures.1 (λ tables k. first-refused c.in_err-check_end.field-0.0 _ _ c.in_err-check_end.ensures.refused)
 
 pub returns-in_err-plan-clause-refused : goal.returns-in_err-plan-clause-refused
 returns-in_err-plan-clause-refused c = rw (← c.self.view_is) (if-err _ c.from_residual-in_err-plan.result _ c.from_residual-in_err-plan.ensures.1 (λ tables k.

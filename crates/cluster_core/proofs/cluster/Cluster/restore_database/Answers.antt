@@ -1,11 +1,11 @@
 use Rattle.std.proofs.Common.{◌≡◌, ◌∙◌, Some, None, ap, subst}
-use Rattle.mvcc_keys.specs.Times.{next}
+use Rattle.mvcc_keys.specs.Times.{next, zero_time}
 use Rattle.machine_model.specs.Restores.{last_of, restore_database}
 use Rattle.cluster_core.specs.ClusterView.{ClusterState}
 use Rattle.cluster_core.specs.Restores.{IsFullTwice}
 use Rattle.cluster_core.specs.Standing.{Runs}
 use Rattle.cluster_core.proofs.BackingUp.{as-returned}
-use Rattle.cluster_core.proofs.Covers.{one-layer}
+use Rattle.cluster_core.proofs.Covers.{chain-some, own-chain}
 use Rattle.cluster_core.proofs.Starting.{chain-runs, chain-steps, full-runs}
 use Rattle.cluster_core.proofs.cluster.Cluster.restore_database.Goals as goal
 
@@ -22,8 +22,8 @@ returns-in_err-chain-clause-step g c = λ m to may.
     (chain-runs c.args.self.now c.args.database.now c.args.source.now c.args.collection.now c.args.at c.args.new_name.now c.in_ok-times.times.0 c.in_ok-times.times.1 (subst (λ (x : ClusterState). next x.clock ≡ Some c.in_ok-times.times.0) c.self.view_is c.in_ok-times.ensures.made) c.in_ok-times.ensures.published
     v c.in_err-chain.field-0.0 c.in_err-chain.ensures.fault (g.met.D.Disk.only_now c.args.disk.now) m to may)
 
-pub restore_from-requires-clause-one : goal.restore_from-requires-clause-one
-restore_from-requires-clause-one g c = let s = c.requires.stands.1 in one-layer c.args.self.now s.tables s.backups c.args.source.now c.args.collection.now c.args.at c.in_ok-chain.chain c.in_ok-chain.ensures.chain
+pub restore_from-requires-clause-own : goal.restore_from-requires-clause-own
+restore_from-requires-clause-own g c = let s = c.requires.stands.1 in own-chain c.args.self.now s.tables s.backups c.args.source.now c.args.collection.now c.args.at c.in_ok-chain.chain c.in_ok-chain.ensures.chain
 
 pub returns-in-Some-clause-step : goal.returns-in-Some-clause-step
 returns-in-Some-clause-step g c = chain-steps c.args.self.now c.args.database.now c.args.source.now c.args.collection.now c.args.at c.args.new_name.now c.in_ok-times.times.0 c.in_ok-times.times.1 (subst (λ (x : ClusterState). next x.clock ≡ Some c.in_ok-times.times.0) c.self.view_is c.in_ok-times.ensures.made) c.in_ok-times.ensures.published
@@ -32,5 +32,7 @@ returns-in-Some-clause-step g c = chain-steps c.args.self.now c.args.database.no
 pub returns-clause-step : goal.returns-clause-step
 returns-clause-step g c =
     let s = c.requires.stands.1 in
-    let one = one-layer c.args.self.now s.tables s.backups c.args.source.now c.args.collection.now c.args.at c.in_ok-chain.chain c.in_ok-chain.ensures.chain in
-    absurd (let no : None ≡ Some one.layer = c.in-None.ensures.value ∙ ap last_of (c.deref.ensures.value ∙ one.layers) in cc no)
+    let x = c.in_ok-chain.chain in
+    let own = own-chain c.args.self.now s.tables s.backups c.args.source.now c.args.collection.now c.args.at x c.in_ok-chain.ensures.chain in
+    let some = chain-some zero_time x.time x.layers.items own.chain in
+    absurd (let no : None ≡ Some some.0 = c.in-None.ensures.value ∙ (ap last_of c.deref.ensures.value ∙ some.1) in cc no)
