@@ -16,5 +16,7 @@ pub mod ProperFacts
 pub mod ProperSteps
 pub mod ProperCommands
 pub mod ProperWalk
+pub mod ProperRestored
+pub mod ProperRestores
 pub mod ProperFinal
 pub mod ProperScripts

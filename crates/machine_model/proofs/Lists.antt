@@ -1,7 +1,7 @@
 -- Lists with one element more, or with another one at a place.
-use Rattle.std.proofs.Common.{◌≡◌, ◌≢◌, ◌⊎◌, inl, inr, ℕ, zero, suc, Bool, refl, sym, ap, List, [], ◌∷◌, ◌++◌, map, length, Some, slice_get, slice_set}
+use Rattle.std.proofs.Common.{◌≡◌, ◌≢◌, ◌⊎◌, inl, inr, ℕ, zero, suc, Bool, refl, sym, ap, ◌∙◌, List, [], ◌∷◌, ◌++◌, map, filter_map, length, Option, Some, None, slice_get, slice_set}
 use Rattle.std.proofs.lemmas.Bool.{cases_Bool}
-use Rattle.std.specs.List.{find}
+use Rattle.std.specs.List.{cons_option, find}
 use Rattle.list_laws.specs.Members.{Has}
 
 pub got-set : {X : Type 0} (xs : List X) (i : ℕ) (x y : X) → slice_get xs i ≡ Some x → slice_get (slice_set xs i y) i ≡ Some y
@@ -58,3 +58,12 @@ pub got-either : {X : Type 0} (xs ys : List X) (j : ℕ) (x : X) → slice_get (
 got-either [] ys j x e = inr (got-has ys j x e)
 got-either (z ∷ zs) ys zero x e = inl e
 got-either (z ∷ zs) ys (suc j) x e = got-either zs ys j x e
+
+pub filter_map-has : {X Y : Type 0} (f : X → Option Y) (y : Y) (xs : List X) → Has y (filter_map f xs) → (x : X) × Has x xs × (f x ≡ Some y)
+filter_map-has f y [] has = absurd has
+filter_map-has {X} {Y} f y (x ∷ xs) has = by (f x) refl has (filter_map-has f y xs)
+  where
+    by : (o : Option Y) → f x ≡ o → Has y (cons_option o (filter_map f xs)) → (Has y (filter_map f xs) → (z : X) × Has z xs × (f z ≡ Some y)) → (z : X) × Has z (x ∷ xs) × (f z ≡ Some y)
+    by None e h more = let w = more h in (w.0, inr w.1, w.2)
+    by (Some z) e (inl same) more = (x, inl refl, e ∙ ap (λ w. Some w) (sym same))
+    by (Some z) e (inr h) more = let w = more h in (w.0, inr w.1, w.2)

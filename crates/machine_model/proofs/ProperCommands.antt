@@ -99,7 +99,7 @@ range-tell d lo hi e = told-rows (wrong_fault (wrong_key d (lo ∷ hi ∷ [])) �
 
 -- ---- names
 
-named-parts : (name : List ℕ × List ℕ) (d : Schema) → has_name name d ≡ true → (d.database ≡ name.0) × (d.name ≡ name.1)
+pub named-parts : (name : List ℕ × List ℕ) (d : Schema) → has_name name d ≡ true → (d.database ≡ name.0) × (d.name ≡ name.1)
 named-parts name d e =
     let a = both_true (bytes_eq d.database name.0 && bytes_eq d.name name.1) (not (is_dropped d.state)) e in
     let b = both_true (bytes_eq d.database name.0) (bytes_eq d.name name.1) a.0 in

@@ -10,7 +10,7 @@ use Rattle.command_lang.proofs.TypedCommands.{read-typed}
 use Rattle.machine_model.specs.declared.limits.TheConstants.{SCRIPT_BYTES_MAX}
 use Rattle.machine_model.specs.Machine.{Machine, Stepped, World}
 use Rattle.machine_model.specs.Extensions.{commands_in, commands_with, if_stepped, machine_from, script_commands}
-use Rattle.machine_model.specs.ProperMachines.{IsNoRestore, IsProperAfter, ScriptsHaveProperHistories, StepsKeepHistory}
+use Rattle.machine_model.specs.ProperMachines.{IsProperAfter, ScriptsHaveProperHistories, StepsKeepHistory}
 use Rattle.machine_model.specs.Script.{Beyond, Line, Within, first_machine, first_step, lines, machine_in, put_front}
 use Rattle.machine_model.specs.Step.{step}
 use Rattle.machine_model.proofs.LongerScripts.{scripts-end}
@@ -58,13 +58,13 @@ commands-typed first (Within line ∷ ls) all = by (reading first line) (λ c e.
 -- ---- machines
 
 module _ (steps : StepsKeepHistory) (worlds : List World) where
-  reached-proper : (n : ℕ) (m : Machine) (cs : List Command) (end : Machine) → n + length cs < 2 ^ 32 - 2 → IsProperAfter n m → AllByRecursion IsTyped cs → AllByRecursion IsNoRestore cs → machine_from worlds (Some m) cs ≡ Some end → IsProperAfter (n + length cs) end
-  reached-proper n m [] end small proper typed other is =
+  reached-proper : (n : ℕ) (m : Machine) (cs : List Command) (end : Machine) → n + length cs < 2 ^ 32 - 2 → IsProperAfter n m → AllByRecursion IsTyped cs → machine_from worlds (Some m) cs ≡ Some end → IsProperAfter (n + length cs) end
+  reached-proper n m [] end small proper typed is =
       let same : m ≡ end = cc is in
       subst (λ (k : ℕ). IsProperAfter k end) (let e : n ≡ n + 0 = omega arith in e) (subst (IsProperAfter n) same proper)
-  reached-proper n m (c ∷ cs) end small proper typed other is =
-      let next = steps worlds n m c (omega (arith, small)) proper typed.0 other.0 in
-      let rest = reached-proper (n + 1) (step worlds m c).machine cs end (omega (arith, small)) next typed.1 other.1 is in
+  reached-proper n m (c ∷ cs) end small proper typed is =
+      let next = steps worlds n m c (omega (arith, small)) proper typed.0 in
+      let rest = reached-proper (n + 1) (step worlds m c).machine cs end (omega (arith, small)) next typed.1 is in
       subst (λ (k : ℕ). IsProperAfter k end) (let e : n + 1 + length cs ≡ n + suc (length cs) = omega arith in e) rest
 
   first-proper : (name : List ℕ) → IsProperAfter 0 (first_machine name)
@@ -78,28 +78,28 @@ module _ (steps : StepsKeepHistory) (worlds : List World) where
     events = omega arith;
   }
 
-  from-proper : (cs : List Command) (end : Machine) → length cs < 2 ^ 32 - 2 → AllByRecursion IsTyped cs → AllByRecursion IsNoRestore cs → machine_from worlds None cs ≡ Some end → IsProperAfter (length cs) end
-  from-proper [] end small typed other is = absurd (cc is)
-  from-proper (c ∷ cs) end small typed other is = by (first_step worlds c) refl is
+  from-proper : (cs : List Command) (end : Machine) → length cs < 2 ^ 32 - 2 → AllByRecursion IsTyped cs → machine_from worlds None cs ≡ Some end → IsProperAfter (length cs) end
+  from-proper [] end small typed is = absurd (cc is)
+  from-proper (c ∷ cs) end small typed is = by (first_step worlds c) refl is
     where
       made : (d : Command) (s : Stepped) → IsTyped d → first_step worlds d ≡ Some s → IsProperAfter 1 s.machine
       made (Cluster name) s good e =
           let same : step worlds (first_machine name) (Cluster name) ≡ s = cc e in
-          subst (λ (x : Stepped). IsProperAfter 1 x.machine) same (steps worlds 0 (first_machine name) (Cluster name) (omega arith) (first-proper name) good tt)
+          subst (λ (x : Stepped). IsProperAfter 1 x.machine) same (steps worlds 0 (first_machine name) (Cluster name) (omega arith) (first-proper name) good)
       made d s good e = absurd (cc e)
 
       by : (s : Option Stepped) → first_step worlds c ≡ s → if_stepped s (machine_from worlds (machine_in s) cs) ≡ Some end → IsProperAfter (length (c ∷ cs)) end
       by None first e = absurd (cc e)
-      by (Some s) first e = subst (λ (k : ℕ). IsProperAfter k end) (let e2 : 1 + length cs ≡ suc (length cs) = omega arith in e2) (reached-proper 1 s.machine cs end (omega (arith, small)) (made c s typed.0 first) typed.1 other.1 e)
+      by (Some s) first e = subst (λ (k : ℕ). IsProperAfter k end) (let e2 : 1 + length cs ≡ suc (length cs) = omega arith in e2) (reached-proper 1 s.machine cs end (omega (arith, small)) (made c s typed.0 first) typed.1 e)
 
-  pub scripts-proper : (script : List ℕ) (m : Machine) → AreBytes script → AllByRecursion IsNoRestore (script_commands script) → machine_from worlds None (script_commands script) ≡ Some m → IsProperAfter (length (script_commands script)) m
+  pub scripts-proper : (script : List ℕ) (m : Machine) → AreBytes script → machine_from worlds None (script_commands script) ≡ Some m → IsProperAfter (length (script_commands script)) m
   unfolding script_commands
-  scripts-proper script m bytes other is =
+  scripts-proper script m bytes is =
       let l = lines-are SCRIPT_BYTES_MAX script bytes in
       let c = commands-typed true (lines SCRIPT_BYTES_MAX script) l.0 in
       let few = l.1 in
       let fewer = c.1 in
-      from-proper (script_commands script) m (omega (arith, few, fewer)) c.0 other is
+      from-proper (script_commands script) m (omega (arith, few, fewer)) c.0 is
 
 pub scripts-have : StepsKeepHistory → ScriptsHaveProperHistories
-scripts-have steps worlds script m bytes other ends = let p = scripts-proper steps worlds script m bytes other (sym (scripts-end worlds script) ∙ ends) in (p.history, p.order)
+scripts-have steps worlds script m bytes ends = let p = scripts-proper steps worlds script m bytes (sym (scripts-end worlds script) ∙ ends) in (p.history, p.order)

@@ -72,7 +72,7 @@ references-fit s t (name ∷ names) small = by (place_named s.tables name t) ref
         rw (e, fits) more
 
 module _ (n : ℕ) (m : Machine) (small : n < 2 ^ 32 - 2) (p : HasProper n m) (o : IsInOrder m) (few : m.limits.tables ≤ 4096) (room : m.limits.events ≤ 1000000) where
-  dated : AreDatedUpTo m.clock m.history.tables
+  pub dated : AreDatedUpTo m.clock m.history.tables
   dated i table got d has = (o.tables i table got).dated d has
 
   pub tick-proper : (wall : ℕ) → wall < 2 ^ 63 → Keeps n m p (tick m wall)

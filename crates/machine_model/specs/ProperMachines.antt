@@ -1,6 +1,5 @@
 -- Every machine that a script's commands lead to has a proper history.
 use Rattle.std.specs.Prelude.{◌≡◌, ◌<◌, ◌≤◌, ◌^◌, ◌-◌, ℕ, ◌+◌, true, List, Some, slice_get}
-use Rattle.std.specs.List.{AllByRecursion}
 use Rattle.list_laws.specs.Bytes.{AreBytes}
 use Rattle.list_laws.specs.Members.{Has}
 use Rattle.mvcc_keys.specs.Times.{IsTime, Time, time_le}
@@ -9,9 +8,7 @@ use Rattle.fact_model.specs.Facts.{date}
 use Rattle.history_model.specs.Rows.{RowFact}
 use Rattle.history_model.specs.Histories.{Table}
 use Rattle.command_lang.specs.declared.command.Command.{Command}
-use Rattle.command_lang.specs.declared.command.Command.TheVariants.{RestoreDatabase}
 use Rattle.command_lang.specs.Typed.{IsTyped}
-use Rattle.machine_model.specs.Extensions.{script_commands}
 use Rattle.machine_model.specs.Machine.{Machine, World}
 use Rattle.machine_model.specs.Orders.{IsInOrder}
 use Rattle.machine_model.specs.Proper.{IsProperHistory}
@@ -32,15 +29,10 @@ pub record IsProperAfter (n : ℕ) (m : Machine) : Type 0 where
   pub few : m.limits.tables ≤ 4096
   pub events : m.limits.events ≤ 1000000
 
--- the command makes no tables out of layers
-abbrev pub IsNoRestore : Command → Type 0
-IsNoRestore (RestoreDatabase database source collection at new) = ⊥
-IsNoRestore c = Unit {0}
-
--- a command in form, but a restore, leads from a proper machine to a proper one
+-- a command in form leads from a proper machine to a proper one
 abbrev pub StepsKeepHistory : Type 0
-StepsKeepHistory = (worlds : List World) (n : ℕ) (m : Machine) (c : Command) → n < 2 ^ 32 - 2 → IsProperAfter n m → IsTyped c → IsNoRestore c → IsProperAfter (n + 1) (step worlds m c).machine
+StepsKeepHistory = (worlds : List World) (n : ℕ) (m : Machine) (c : Command) → n < 2 ^ 32 - 2 → IsProperAfter n m → IsTyped c → IsProperAfter (n + 1) (step worlds m c).machine
 
--- the machine at the end of a script of bytes that restores nothing has a proper history, in order
+-- the machine at the end of a script of bytes has a proper history, in order
 abbrev pub ScriptsHaveProperHistories : Type 0
-ScriptsHaveProperHistories = (worlds : List World) (script : List ℕ) (m : Machine) → AreBytes script → AllByRecursion IsNoRestore (script_commands script) → (script_outcome worlds script).machine ≡ Some m → IsProperHistory m.history × IsInOrder m
+ScriptsHaveProperHistories = (worlds : List World) (script : List ℕ) (m : Machine) → AreBytes script → (script_outcome worlds script).machine ≡ Some m → IsProperHistory m.history × IsInOrder m

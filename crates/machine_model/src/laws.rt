@@ -43,13 +43,12 @@ pub fn steps_keep_order()
     ensures { StepsKeepOrder }
 {}
 
-/// A law: a command in form that is no restore leads from a machine with a proper history to
-/// another such machine.
+/// A law: a command in form leads from a machine with a proper history to another such machine.
 pub fn steps_keep_history()
     ensures { StepsKeepHistory }
 {}
 
-/// A law: the machine at the end of a script that restores nothing has a proper history, in order.
+/// A law: the machine at the end of every script has a proper history, in order.
 pub fn scripts_have_proper_histories()
     ensures { ScriptsHaveProperHistories }
 {}
