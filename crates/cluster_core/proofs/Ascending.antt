@@ -1,17 +1,14 @@
 -- The tables that a manifest shows stand by ascending ids.
 use Rattle.std.proofs.Common.{◌≡◌, ◌∙◌, inl, inr, ℕ, ◌+◌, ◌<◌, ◌≤◌, Bool, true, false, ◌&&◌, ◌==◌, nat_le, if◌then◌else◌, refl, ap, ap₂, arith, List, [], ◌∷◌, ◌++◌, Option, Some, None, filter_map}
 use Rattle.std.specs.List.{cons_option}
-use Rattle.std.specs.Prelude.{option_and_then, reverse}
 use Rattle.std.specs.Str.{bytes_eq}
 use Rattle.std.proofs.lemmas.Bool.{eqb-true}
 use Rattle.std.proofs.lemmas.Bool.Decides.{nat_tests}
-use Rattle.mvcc_keys.specs.Times.{Time, time_le}
+use Rattle.mvcc_keys.specs.Times.{Time}
 use Rattle.table_descriptors.specs.Descriptors.{IsProperSchema, Schema}
 use Rattle.table_descriptors.specs.Fields.{EachAfter}
 use Rattle.table_descriptors.proofs.ListLaws.{last-push}
-use Rattle.list_laws.proofs.Members.{reverse-has}
 use Rattle.list_laws.specs.Members.{Has}
-use Rattle.history_model.specs.Histories.{in_force}
 use Rattle.introduced_spans.specs.Publicity.{is_public}
 use Rattle.layer_manifest.specs.declared.manifest.Manifest.{Manifest}
 use Rattle.layer_manifest.specs.declared.manifest.TablePart.{TablePart}
@@ -19,8 +16,8 @@ use Rattle.layer_manifest.specs.Manifests.{IsNextTable, IsProperManifest, comes_
 use Rattle.key_rewriter.specs.Ids.{are_ascending, ascends_from}
 use Rattle.id_remap.specs.Remapping.{ids_of}
 use Rattle.machine_model.specs.Restores.{chosen_by, if_chosen}
+use Rattle.machine_model.proofs.ProperRestores.{chosen-has}
 use Rattle.cluster_core.specs.Restores.{shown_tables}
-use Rattle.machine_model.proofs.Lists.{find-has}
 
 -- ---- the descriptors of a table
 
@@ -44,13 +41,6 @@ chosen-same database x d e = by (is_public x && bytes_eq x.database database) e
     by false f = cc f
 
 -- and is among them
-pub chosen-has : (database : List ℕ) (t : Time) (ds : List Schema) (d : Schema) → chosen_by database t ds ≡ Some d → Has d ds
-chosen-has database t ds d e = by (in_force ds t) refl e
-  where
-    by : (o : Option Schema) → in_force ds t ≡ o → option_and_then (if_chosen database) o ≡ Some d → Has d ds
-    by None is f = cc f
-    by (Some x) is f = reverse-has ds d (find-has (λ (y : Schema). time_le y.modified t) (reverse ds) d (is ∙ ap (λ (y : Schema). Some y) (chosen-same database x d f)))
-
 -- ---- tables
 
 -- an id after a table is greater than that of the table

@@ -1,6 +1,6 @@
 -- Chosen tables: each is one of the cluster's, and shown by the layers of the scope; and what is read of them.
-use Rattle.std.proofs.Common.{◌≡◌, ◌∙◌, inl, inr, ℕ, ◌+◌, ◌-◌, ◌<◌, ◌≤◌, Bool, true, false, ◌&&◌, nat_lt, refl, sym, ap, ap₂, subst, subst₂, arith, get_or, List, [], ◌∷◌, ◌++◌, length, map, take, Option, Some, None, filter_map, option_map, slice_get, unwrap_or}
-use Rattle.std.specs.List.{AllByRecursion, cons_option}
+use Rattle.std.proofs.Common.{◌≡◌, ◌∙◌, ℕ, ◌+◌, ◌-◌, ◌<◌, ◌≤◌, Bool, true, false, ◌&&◌, nat_lt, refl, sym, ap, ap₂, subst, subst₂, arith, get_or, List, [], ◌∷◌, ◌++◌, length, map, take, Option, Some, None, option_map, slice_get, unwrap_or}
+use Rattle.std.specs.List.{AllByRecursion}
 use Rattle.std.specs.Prelude.{if◌then◌else◌, option_and_then}
 use Rattle.std.specs.Str.{bytes_eq}
 use Rattle.std.specs.Global.{Vec}
@@ -24,19 +24,11 @@ use Rattle.layer_objects.specs.Storable.{AreStorable, IsSized}
 use Rattle.layer_chains.specs.Chains.{IsShown}
 use Rattle.machine_model.specs.Restores.{chosen_by, chosen_tables, if_chosen}
 use Rattle.cluster_core.specs.Chains.{AreTypedRows, IsEntryOf, entries_in}
-use Rattle.cluster_core.proofs.Ascending.{chosen-has}
+use Rattle.machine_model.proofs.Lists.{filter_map-has}
+use Rattle.machine_model.proofs.ProperRestores.{chosen-has}
 use Rattle.cluster_core.proofs.Tables.{by_id-at}
 
 -- ---- lists
-
-pub filter_map-has : {X Y : Type 0} (f : X → Option Y) (y : Y) (xs : List X) → Has y (filter_map f xs) → (x : X) × Has x xs × (f x ≡ Some y)
-filter_map-has f y [] has = absurd has
-filter_map-has {X} {Y} f y (x ∷ xs) has = by (f x) refl has (filter_map-has f y xs)
-  where
-    by : (o : Option Y) → f x ≡ o → Has y (cons_option o (filter_map f xs)) → (Has y (filter_map f xs) → (z : X) × Has z xs × (f z ≡ Some y)) → (z : X) × Has z (x ∷ xs) × (f z ≡ Some y)
-    by None e h more = let w = more h in (w.0, inr w.1, w.2)
-    by (Some z) e (inl same) more = (x, inl refl, e ∙ ap (λ w. Some w) (sym same))
-    by (Some z) e (inr h) more = let w = more h in (w.0, inr w.1, w.2)
 
 -- ---- descriptors
 

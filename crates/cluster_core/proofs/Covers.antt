@@ -38,7 +38,7 @@ use Rattle.cluster_core.specs.ClusterView.{ClusterState, record_of}
 use Rattle.cluster_core.specs.Standing.{HasBackups, IsOwnBackup, machine_of}
 use Rattle.cluster_core.specs.Backing.{AreLayersFrom}
 use Rattle.cluster_core.specs.Chains.{IsChain, IsChainFault, IsOwnChain, IsOwnLayer, with_chain}
-use Rattle.cluster_core.proofs.Chosen.{filter_map-has}
+use Rattle.machine_model.proofs.Lists.{filter_map-has}
 use Rattle.cluster_core.proofs.Storing.{has-place}
 use Rattle.machine_model.proofs.Lists.{got-has}
 use Rattle.list_laws.proofs.Bools.{and-parts}

@@ -1,15 +1,12 @@
 -- Where a layer goes on: after the last full backup, or after the layers of a subdirectory.
-use Rattle.std.proofs.Common.{◌≡◌, inl, inr, ℕ, ◌-◌, ◌<◌, arith, if◌then◌else◌, Bool, true, false, List, [], ◌∷◌, ◌++◌, map, filter, length, Option, Some, None, slice_get, option_map, refl, sym, ap, ap₂, subst, ◌∙◌}
-use Rattle.std.specs.List.{fold}
-use Rattle.std.proofs.lemmas.List.{length-map, length_push}
-use Rattle.std.proofs.lemmas.Option.{slice_get-map}
+use Rattle.std.proofs.Common.{◌≡◌, inl, inr, ℕ, Bool, true, List, [], map, filter, Option, Some, None, option_map, refl, sym, ap, ap₂, subst, ◌∙◌}
 use Rattle.std.proofs.lemmas.Slice.Eq.{bytes_eq-Decides}
-use Rattle.mvcc_keys.specs.Times.{Time, later, or_zero, time_le, time_lt, zero_time}
-use Rattle.mvcc_keys.proofs.TimeOrder.{le-refl, le-trans, lt-le, lt-le-absurd, not_lt-le, zero-le}
+use Rattle.mvcc_keys.specs.Times.{Time, time_le, time_lt, zero_time}
+use Rattle.mvcc_keys.proofs.TimeOrder.{le-refl, le-trans, lt-le-absurd, zero-le}
 use Rattle.table_descriptors.specs.declared.scopes.Scope.{Scope}
 use Rattle.list_laws.specs.Members.{Has}
 use Rattle.list_laws.proofs.Bools.{and-parts}
-use Rattle.list_laws.proofs.Members.{filter-has, filter-passes, has-filter, has-map}
+use Rattle.list_laws.proofs.Members.{has-filter, has-map}
 use Rattle.history_model.specs.Histories.{Table}
 use Rattle.history_model.specs.Layers.{LayerRecord}
 use Rattle.layer_manifest.specs.declared.manifest.Manifest.{Manifest}
@@ -22,7 +19,7 @@ use Rattle.layer_book.specs.Subdirectories.{end_times, first_of, full_times, is_
 use Rattle.layer_book.proofs.Carried.{first_map, last_end_map, last_full_map}
 use Rattle.layer_book.proofs.FullTimes.{fold_greatest}
 use Rattle.reply_texts.specs.declared.refusals.Refusal.TheVariants.{NoSuchBackup}
-use Rattle.machine_model.specs.Machine.{Backup, Machine, Stepped, refused, with_found}
+use Rattle.machine_model.specs.Machine.{Machine, Stepped, refused, with_found}
 use Rattle.machine_model.specs.declared.extents.Extent.{Extent}
 use Rattle.machine_model.specs.Backups.{backup, full_backup, full_extent, increment_in, last_end_in, last_full, next_extent}
 use Rattle.machine_model.proofs.Lists.{find-has}
@@ -31,7 +28,6 @@ use Rattle.cluster_core.specs.Standing.{HasBackups, StandsFor, machine_of}
 use Rattle.cluster_core.specs.Backing.{IsNext, IsOfScopeOf}
 use Rattle.cluster_core.proofs.Backing.{last-is}
 use Rattle.cluster_core.proofs.Covers.{find-passes}
-use Rattle.cluster_core.proofs.Storing.{has-place}
 
 -- ---- after the last full backup
 
@@ -100,10 +96,6 @@ module _ (book : Book) (collection cluster : List ℕ) (full : Time) (p : LayerN
         b.scopes r (record_of p) (subst (λ (y : Book). Has r (map record_of y.layers)) (sym same) has) (subst (λ (y : Book). Has (record_of p) (map record_of y.layers)) (sym same) (has-map record_of p book.layers after-own))
         (of ∙ (ap (λ (y : Extent). y.collection) is ∙ sym after-of)) (full_is ∙ ap (λ (y : Extent). y.full) is)
         ∙ ap (λ (y : Extent). y.scope) (sym is)
-
--- the record of an own layer
-pub own-form : (c : ClusterState) (tables : List Table) → HasBackups c tables → (p : LayerName × Manifest) → Has p c.book.layers → IsRecord (record_of p)
-own-form c tables b p has = let at = has-place (Backup (record_of p)) c.jobs (b.layers p has).among in (b.backups at.0 (record_of p) at.1).is
 
 module _ (c : ClusterState) (collection : List ℕ) (s : List ℕ × Time) (history : Bool) (end clock : Time) where
   abbrev with-first : Machine → Option LayerRecord → Time → Stepped

@@ -1,5 +1,5 @@
 -- BACKUP INTO LATEST up to the layers of its subdirectory.
-use Rattle.std.proofs.Common.{◌≡◌, ℕ, Bool, List, [], ◌++◌, Option, Some, None, sym, ap, subst, ◌∙◌, Result, Err, IsErrAnd}
+use Rattle.std.proofs.Common.{◌≡◌, ℕ, Bool, List, [], ◌++◌, Option, Some, None, sym, ap, subst, ◌∙◌}
 use Rattle.mvcc_keys.specs.Times.{Time}
 use Rattle.history_model.specs.Histories.{Table}
 use Rattle.layer_book.specs.Books.{name_in}

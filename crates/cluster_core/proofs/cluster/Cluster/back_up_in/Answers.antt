@@ -4,9 +4,10 @@ use Rattle.reply_texts.specs.declared.refusals.Refusal.TheVariants.{NoSuchBackup
 use Rattle.machine_model.specs.Backups.{backup, increment_in}
 use Rattle.cluster_core.specs.declared.halts.Halt.TheVariants.{Refused}
 use Rattle.cluster_core.proofs.BackingUp.{halted-runs}
+use Rattle.cluster_core.proofs.Covers.{booked}
 use Rattle.cluster_core.proofs.Ending.{memory-halted, runs-by}
 use Rattle.cluster_core.proofs.Flow.{same-refused}
-use Rattle.cluster_core.proofs.Increments.{after-is, after-next, after-none, after-own, after-scopes, own-form, same-next}
+use Rattle.cluster_core.proofs.Increments.{after-is, after-next, after-none, after-own, after-scopes, same-next}
 use Rattle.cluster_core.proofs.cluster.Cluster.back_up_in.Goals as goal
 
 pub returns-in_err-scope-in-Some-clause-step : goal.returns-in_err-scope-in-Some-clause-step
@@ -21,7 +22,7 @@ back_up-requires-clause-next g c =
     let s = c.requires.stands.1 in
     after-next c.args.self.now.book c.args.collection.now c.args.subdirectory.now.0 c.args.subdirectory.now.1 p (rw (← c.self.view_is) (sym c.in-Some.ensures)) c.args.history c.args.times.0 c.last_end-last.result (rw (← c.self.view_is) c.last_end-last.ensures) _
     (same-next _ _ _ _ _ _ _ _ c.in_ok-copy-in-Some.ensures.same (ap (λ (m : Manifest). m.scope) c.in_ok-scope-in-Some.ensures))
-    (own-form c.args.self.now s.tables s.backups p (after-own c.args.self.now.book c.args.collection.now c.args.subdirectory.now.0 c.args.subdirectory.now.1 p (rw (← c.self.view_is) (sym c.in-Some.ensures))))
+    (booked c.args.self.now s.tables s.backups p (after-own c.args.self.now.book c.args.collection.now c.args.subdirectory.now.0 c.args.subdirectory.now.1 p (rw (← c.self.view_is) (sym c.in-Some.ensures)))).1.is
 
 pub back_up-requires-clause-scopes : goal.back_up-requires-clause-scopes
 back_up-requires-clause-scopes g c =

@@ -21,8 +21,8 @@ returns-in_err-subdirectories-clause-step g c = λ m to may. memory-halted c.arg
 pub returns-in-Some-clause-step : goal.returns-in-Some-clause-step
 unfolding backup_latest
 returns-in-Some-clause-step g c = rw (← c.self.view_is) (
-    runs-by (view_of c.self.inside) c.back_up_in.new.self (λ m. increment_in m c.args.collection.now c.in-Some.field-0.now c.args.history c.in_ok-end.end c.in_ok-end.clock) (λ m. ending m c.args.at (after-latest m c.args.collection.now c.args.history)) c.back_up_in.result (g.D.Disk.view c.args.disk.now) (g.D.Disk.view c.back_up_in.new.disk)
-    (latest-is (view_of c.self.inside) c.args.collection.now c.args.history c.args.at (c.in_ok-end.end, c.in_ok-end.clock) c.in_ok-end.ensures.ending c.in-Some.field-0.now (ap (source_among Latest) (sym (c.deref.ensures.value ∙ c.in_ok-subdirectories.ensures)) ∙ sym c.in-Some.ensures))
+    runs-by (view_of c.self.inside) c.back_up_in.new.self (λ m. increment_in m c.args.collection.now c.in-Some.subdirectory.now c.args.history c.in_ok-end.end c.in_ok-end.clock) (λ m. ending m c.args.at (after-latest m c.args.collection.now c.args.history)) c.back_up_in.result (g.D.Disk.view c.args.disk.now) (g.D.Disk.view c.back_up_in.new.disk)
+    (latest-is (view_of c.self.inside) c.args.collection.now c.args.history c.args.at (c.in_ok-end.end, c.in_ok-end.clock) c.in_ok-end.ensures.ending c.in-Some.subdirectory.now (ap (source_among Latest) (sym (c.deref.ensures.value ∙ c.in_ok-subdirectories.ensures)) ∙ sym c.in-Some.ensures))
     (rw (← c.self.view_is) at c.back_up_in.ensures.step))
 
 pub returns-clause-step : goal.returns-clause-step
