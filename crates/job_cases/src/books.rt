@@ -136,6 +136,26 @@ fn put_layer(layer: &LayerName, manifest: &Manifest, out: &mut String) -> Result
     put_counts(manifest, out)
 }
 
+/// `first c a 5`
+fn first(alloc: Global, book: &LayerBook, line: &str, out: &mut String) -> Result<(), Memory> {
+    let (collection, words) = cut(line);
+    let (cluster, full) = cut(words);
+    let (collection, cluster) = (name(alloc, collection)?, name(alloc, cluster)?);
+    if let Some((layer, manifest)) = book.first(&collection, &cluster, time(full)) {
+        put_layer(layer, manifest, out)?;
+    }
+    Ok(out.push_str(".\n")?)
+}
+
+/// `end c a 5`
+fn last_end(alloc: Global, book: &LayerBook, line: &str, out: &mut String) -> Result<(), Memory> {
+    let (collection, words) = cut(line);
+    let (cluster, full) = cut(words);
+    let (collection, cluster) = (name(alloc, collection)?, name(alloc, cluster)?);
+    put_time(book.last_end(&collection, &cluster, time(full)), out)?;
+    Ok(out.push('\n')?)
+}
+
 /// `layers c a 5`
 fn layers(alloc: Global, books: &Books, line: &str, out: &mut String) -> Result<(), Memory> {
     let (collection, words) = cut(line);
@@ -159,6 +179,8 @@ fn call(alloc: Global, books: &mut Books, line: &str, out: &mut String) -> Resul
         "cluster" => Ok(write!(out, "{}\n", books.book.cluster())?),
         "last" => last(alloc, &books.book, words, out),
         "subdirectories" => subdirectories(alloc, books, words, out),
+        "first" => first(alloc, &books.book, words, out),
+        "end" => last_end(alloc, &books.book, words, out),
         "layers" => layers(alloc, books, words, out),
         _ => Err(Memory),
     }
