@@ -215,6 +215,7 @@ keeps-collected : (g threshold : Time) (facts : List ByteFact) (t u : TableVersi
 keeps-collected g threshold facts t u k le c = record {
   apart = k.apart;
   differ = k.differ;
+  begun = k.begun;
   from = c.threshold;
   first = subst AllNewestFirst (sym c.rows) (trims-first g t.ranges t.rows.entries k.first);
   only = λ f h. subst (Has f) again (kept-same g before (held_facts (Some t)) (kept-apart (Some t) threshold facts k) k.only k.found f (collected-only g t u c k.first f h));

@@ -62,6 +62,7 @@ keeps-push : (t u : TableVersions) (threshold : Time) (facts : List ByteFact) (f
 keeps-push t u threshold facts f k late apart differ same first only found = record {
   apart = apart;
   differ = differ;
+  begun = λ g h. elim (members.has-append_cases g facts (f ∷ []) h) [ inl old ↦ k.begun g old | inr new ↦ newest-begun g new ];
   from = same ∙ k.from;
   first = first;
   only = λ g h. subst (Has g) (sym push) (elim (only g h) [ inl e ↦ members.has-append_right g (kept bytes_cmp threshold facts) (f ∷ []) (inl e) | inr i ↦ members.has-append_left g (kept bytes_cmp threshold facts) (f ∷ []) (k.only g i) ]);
@@ -70,6 +71,10 @@ keeps-push t u threshold facts f k late apart differ same first only found = rec
   where
     push : kept bytes_cmp threshold (facts ++ f ∷ []) ≡ kept bytes_cmp threshold facts ++ f ∷ []
     push = growth.kept-push bytes_cmp bytes_order threshold facts f late
+
+    newest-begun : (g : ByteFact) → Has g (f ∷ []) → time_lt zero_time (date g) ≡ true
+    newest-begun g (inl e) = subst (λ (x : ByteFact). time_lt zero_time (date x) ≡ true) (sym e) (times.le-lt-lt zero_time threshold (date f) (times.zero-le threshold) late)
+    newest-begun g (inr none) = absurd none
 
     one : (g : ByteFact) → Has g (f ∷ []) → (g ≡ f) ⊎ Has g (held_facts (Some t))
     one g (inl e) = inl e
@@ -211,6 +216,7 @@ pub keeps-same : (t u : TableVersions) (threshold : Time) (facts : List ByteFact
 keeps-same t u threshold facts rows ranges same k = record {
   apart = k.apart;
   differ = k.differ;
+  begun = k.begun;
   from = same ∙ k.from;
   first = subst AllNewestFirst (sym rows) k.first;
   only = subst (λ fs. AllIn fs (kept bytes_cmp threshold facts)) held k.only;
@@ -253,6 +259,7 @@ table-made tables new id u none e rows ranges zero = record {
     own h k = record {
       apart = k.apart;
       differ = k.differ;
+      begun = k.begun;
       from = zero ∙ k.from;
       first = subst AllNewestFirst (sym rows) tt;
       only = subst (λ fs. AllIn fs (kept bytes_cmp (h.threshold id) (h.facts id))) (sym held) k.only;
@@ -268,6 +275,7 @@ keeps-none tables e = subst (λ ts. KeepsAll ts no_facts) (sym e) (record {
   table = λ id. record {
     apart = record { apart = λ k f g h i p q e. absurd h };
     differ = record { differ = λ f g h i p q e. absurd h };
+    begun = λ f none. absurd none;
     from = refl;
     first = tt;
     only = λ f h. h;

@@ -1,5 +1,5 @@
 -- What a map of versions shows after a place.
-use Rattle.std.proofs.Common.{◌≡◌, ◌∙◌, ℕ, zero, suc, Bool, true, false, cond, sym, refl, ap, ap₂, List, [], ◌∷◌, ◌++◌, map, filter, take, Option, Some, None, inl, is_eq, is_le}
+use Rattle.std.proofs.Common.{◌≡◌, ◌∙◌, ℕ, zero, suc, Bool, true, false, cond, sym, refl, ap, ap₂, ◌&&◌, true≢false, List, [], ◌∷◌, ◌++◌, map, filter, take, Option, Some, None, inl, inr, is_eq, is_le}
 use Rattle.std.specs.Global.{Vec}
 use Rattle.std.specs.Option.{option_to_list}
 use Rattle.std.specs.List.Sorted.{IsStrictlySortedBy}
@@ -7,17 +7,19 @@ use Rattle.std.proofs.lemmas.Cmp.{tied_itself}
 use Rattle.std.proofs.lemmas.List.{take-map}
 use Rattle.std.proofs.lemmas.List.Elements.{filter-append}
 use Rattle.std.proofs.lemmas.List.Kept.{IsStrictlySortedBy-filter}
-use Rattle.mvcc_keys.specs.Times.{Time, time_le}
+use Rattle.mvcc_keys.specs.Times.{Time, time_le, time_lt, zero_time}
+use Rattle.mvcc_keys.proofs.TimeOrder.{lt-not_le}
 use Rattle.mvcc_keys.specs.declared.entries.Entry.{Entry}
 use Rattle.range_tombstones.specs.declared.upto.Upto.{Upto}
 use Rattle.range_tombstones.specs.Intervals.{is_between}
 use Rattle.range_tombstones.specs.declared.deletion.RangeDeletion.{RangeDeletion}
 use Rattle.range_tombstones.specs.Ranges.{newest_cover}
 use Rattle.fact_model.specs.Facts as facts
-use Rattle.fact_model.specs.Facts.{date}
+use Rattle.fact_model.specs.Facts.{date, later, newest, touches, value, version_of}
 use Rattle.fact_model.specs.Listed.{is_point, key_of, point_cmp, points}
 use Rattle.fact_model.specs.Ordered.{ordered}
-use Rattle.fact_model.specs.Scans.{image}
+use Rattle.fact_model.specs.Scans.{image, items, keys_put, put_of, scan}
+use Rattle.fact_model.proofs.Scanned as scanned
 use Rattle.list_laws.specs.Members.{Has}
 use Rattle.list_laws.proofs.Filters.{filter-map}
 use Rattle.list_laws.proofs.Members as members
@@ -78,6 +80,26 @@ none-cut place n fs e = sym (sym (cut place n fs) ∙ (ap (λ (xs : List Entry).
 
 pub scan-after-none : (tables : List (ℕ × TableVersions)) (id : ℕ) (at : Time) (place : Option (Bytes × Time)) (n : ℕ) (h : Tables) → table_in tables id ≡ None → KeepsAll tables h → time_le (h.threshold id) at ≡ true → [] ≡ scan_after_at h id at place n
 scan-after-none tables id at place n h e all le = none-cut place n (image bytes_cmp at (h.facts id)) (scan-none tables id at h e all le)
+
+-- ---- before all dates
+
+nothing-yet : (key : Bytes) (fs : List ByteFact) → ((f : ByteFact) → Has f fs → time_lt zero_time (date f) ≡ true) → newest bytes_cmp key zero_time fs ≡ None
+unfolding newest
+nothing-yet key [] begun = refl
+nothing-yet key (f ∷ fs) begun = by (touches bytes_cmp key f) (time_le (date f) zero_time) (lt-not_le zero_time (date f) (begun f (inl refl))) (nothing-yet key fs (λ g has. begun g (inr has)))
+  where
+    by : (a b : Bool) → b ≡ false → newest bytes_cmp key zero_time fs ≡ None → cond (a && b) (later f (newest bytes_cmp key zero_time fs)) (newest bytes_cmp key zero_time fs) ≡ None
+    by true false off more = more
+    by false false off more = more
+    by a true off more = absurd (true≢false off)
+
+none-visible : (fs : List ByteFact) → ((f : ByteFact) → Has f fs → time_lt zero_time (date f) ≡ true) → image bytes_cmp zero_time fs ≡ []
+unfolding image scan items keys_put ordered value newest
+none-visible fs begun = ap (map put_of) (scanned.scan-by_value bytes_cmp bytes_order zero_time zero_time fs [] (λ key. ap version_of (nothing-yet key fs begun)))
+
+-- no put is visible at the clock's first time
+pub scan-after-begun : (tables : List (ℕ × TableVersions)) (id : ℕ) (place : Option (Bytes × Time)) (n : ℕ) (h : Tables) → KeepsAll tables h → [] ≡ scan_after_at h id zero_time place n
+scan-after-begun tables id place n h all = none-cut place n (image bytes_cmp zero_time (h.facts id)) (ap entries_of (sym (none-visible (h.facts id) (all.table id).begun)))
 
 -- ---- the newest of each key
 

@@ -1,13 +1,13 @@
 -- What a map of versions stands for.
-use Rattle.std.specs.Prelude.{◌≡◌, ℕ, List, [], ◌++◌, Option, Some, None}
+use Rattle.std.specs.Prelude.{◌≡◌, ℕ, true, List, [], ◌++◌, Option, Some, None}
 use Rattle.std.specs.BTreeMap.{is_at}
 use Rattle.std.specs.Map.{lookup}
 use Rattle.std.specs.Ordering.{nat_cmp}
-use Rattle.mvcc_keys.specs.Times.{Time, zero_time}
+use Rattle.mvcc_keys.specs.Times.{Time, time_lt, zero_time}
 use Rattle.range_tombstones.specs.Ranges.{ranges_after}
-use Rattle.fact_model.specs.Facts.{IsApart}
+use Rattle.fact_model.specs.Facts.{IsApart, date}
 use Rattle.fact_model.specs.Listings.{RangesDiffer}
-use Rattle.list_laws.specs.Members.{AllIn}
+use Rattle.list_laws.specs.Members.{AllIn, Has}
 use Rattle.fact_model.specs.Scans.{kept}
 use Rattle.version_store.specs.Tables.{ByteFact, Tables, bytes_cmp}
 use Rattle.version_store.specs.Rows.{AllNewestFirst, KeysAscend, map_facts, range_facts, trimmed_rows}
@@ -26,10 +26,11 @@ abbrev pub RowsNewestFirst : Option TableVersions → Type 0
 RowsNewestFirst None = Unit {0}
 RowsNewestFirst (Some t) = AllNewestFirst t.rows.entries
 
--- a table has just the facts that are kept of its history, and its threshold
+-- a table has just the facts that are kept of its history, all dated after the clock's first time, and its threshold
 pub record KeepsTable (table : Option TableVersions) (threshold : Time) (facts : List ByteFact) : Type 0 where
   pub apart : IsApart bytes_cmp facts
   pub differ : RangesDiffer facts
+  pub begun : (f : ByteFact) → Has f facts → time_lt zero_time (date f) ≡ true
   pub from : held_threshold table ≡ threshold
   pub first : RowsNewestFirst table
   pub only : AllIn (held_facts table) (kept bytes_cmp threshold facts)

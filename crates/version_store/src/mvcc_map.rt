@@ -136,6 +136,10 @@ impl Versions for MvccMap {
         after: &Option<(Blob, Hlc)>,
         n: usize,
     ) -> Result<Vec<Entry>, Memory> {
+        // no version is as old as the clock's first time
+        if t == Hlc::zero() {
+            return Ok(Vec::new(self.alloc));
+        }
         match self.tables.get(&u64::from(table)) {
             Some(table) => {
                 let mut seen = scan_from(self.alloc, &table.rows, &table.ranges, t, after, n)?;
